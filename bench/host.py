@@ -10,6 +10,7 @@ stopped, 200 where it isn't said. As root it goes on as another user. What it pr
 from __future__ import annotations
 
 import os
+import signal
 import subprocess
 import sys
 import threading
@@ -112,6 +113,12 @@ PLAIN = ("bwrap", "--unshare-all", "--die-with-parent", "--ro-bind", "/usr", "/u
          "--proc", "/proc", "--dev", "/dev", "/usr/bin/sleep", "1000000")
 
 
+# What is wanted of each, as it is printed behind what was found.
+AIMS = {"connects": " (300 wanted)", "lines": " (40 more than plain wanted)",
+        "up": " (8 s for 500 wanted)", "down": " (2 s for 500 wanted)", "memory": " (100 MB for 500 wanted)",
+        "held": " (500 ms for 200 wanted)", "stubborn": " (5 s wanted)"}
+
+
 def in_lanes(host, lines, lanes):
     """Gives commands to a host over so many sessions. How long it took, in seconds."""
     threads = [threading.Thread(target=host.ask, args=lines[lane::lanes]) for lane in range(lanes)]
@@ -156,7 +163,7 @@ def connections(Host, folder, package, root_of):
         pids = host.runner_pid(), host.manager_pids()[0]
         before = [processor(pid) for pid in pids]
         host.wait_until(lambda: "done\n" in host.said(name), "measurement")
-        print(host.said(name).replace("done\n", "").replace("ready\n", ""), end="")
+        print(host.said(name).replace("done\n", "").replace("ready\n", "").rstrip() + AIMS.get(name, ""))
         if count:
             runner, manager = ((processor(pid) - was) / count for pid, was in zip(pids, before))
             print(f"  of the processor a {name[:-1]} takes {runner:.0f} us of the runner, {manager:.0f} of "
@@ -180,14 +187,15 @@ def instances(Host, folder, package, root_of, count):
     begun = time.monotonic()
     plain = [subprocess.Popen(PLAIN) for _ in range(count)]
     while True:
-        inside = [len(Path(f"/proc/{one.pid}/task/{one.pid}/children").read_text()) > 0 for one in plain]
+        inside = [Path(f"/proc/{one.pid}/task/{one.pid}/children").read_text() for one in plain]
         if all(inside):
             break
         time.sleep(0.005)
     up = time.monotonic() - begun
     begun = time.monotonic()
-    for one in plain:
-        one.kill()
+    # Not bwrap itself: who kills it so soon may leave the first process inside.
+    for one in inside:
+        os.kill(int(one), signal.SIGKILL)
     for one in plain:
         one.wait()
     print(f"{count} sandboxes, plain bubblewrap:  up in {up:.2f} s, down in {time.monotonic() - begun:.2f} s")
@@ -197,21 +205,48 @@ def instances(Host, folder, package, root_of, count):
         package(base / "repo", name, P % ("", ""), SLEEPER)
     host = Host(base / "repo", root_of(base / "repo", *names), run=base / "r")
     for lanes in 1, 4:
-        took = in_lanes(host, [f"start {name}" for name in names], lanes)
-        used = memory(host.runner_pid())
-        begun = time.monotonic()
-        host.ask(*[f"stop {name}" for name in names]) if lanes == 1 else None
-        print(f"{count} instances by {lanes} session{'s' * (lanes > 1)}: up in {took:.2f} s, the runner has "
-              f"{used:.0f} MB" + (f"; stopped one by one in {time.monotonic() - begun:.2f} s" * (lanes == 1)))
-    begun = time.monotonic()
-    host.own("replace")
-    host.wait(r"^replaced ")
-    held = host.events("replaced")[0]["held_ms"]
+        up_and_down(host, names, lanes)
+    replaced(host, count)
     begun = time.monotonic()
     host.end()
-    print(f"{count} instances: connects held {held:.0f} ms by another manager; all shut down in "
-          f"{time.monotonic() - begun:.2f} s")
+    print(f"{count} instances: all shut down in {time.monotonic() - begun:.2f} s{AIMS['down']}")
     host.remove()
+
+
+def up_and_down(host, names, lanes):
+    """Starts all over so many sessions; stops them again one by one where that is one session."""
+    count, many = len(names), f"{len(names)} instances by {lanes} session{'s' * (lanes > 1)}"
+    pids = helpers(host)
+    before = [processor(pid) for pid in pids]
+    took = in_lanes(host, [f"start {name}" for name in names], lanes)
+    runner, starter = ((processor(pid) - was) / count for pid, was in zip(pids, before))
+    print(f"{many}: up in {took:.2f} s{AIMS['up']}; of the processor a start takes {runner:.0f} us of the "
+          f"runner, {starter:.0f} of the starter")
+    has = [f"{memory(pid):.0f} MB" for pid in pids]
+    print(f"{many}: the runner has {has[0]}, the starter {has[1]}{AIMS['memory']}")
+    if lanes == 1:
+        begun = time.monotonic()
+        host.ask(*[f"stop {name}" for name in names])
+        print(f"{many}: stopped one by one in {time.monotonic() - begun:.2f} s{AIMS['down']}")
+
+
+def helpers(host):
+    """The processes of the runner and of its starter."""
+    from cm_tools.host.starts import PROGRAM
+    from tests.hosting.trial import cmdline
+
+    return host.runner_pid(), next(pid for pid in host.below() if cmdline(pid)[3:4] == [PROGRAM])
+
+
+def replaced(host, count):
+    """Another manager by request, and behind one that is killed, while all run."""
+    for why in "by request", "behind one that is killed":
+        before = len(host.events("replaced"))
+        host.own("replace") if why == "by request" else os.kill(host.manager_pids()[-1], signal.SIGKILL)
+        host.wait(r"^replaced ", before + 1)
+        held = host.events("replaced")[-1]["held_ms"]
+        print(f"{count} instances: connects held {held:.0f} ms by another manager {why}{AIMS['held']}")
+        host.wait_until(lambda: len(host.manager_pids()) == 1, "end of the first manager")
 
 
 def stubborn(Host, folder, package, root_of, count=20):
@@ -225,7 +260,8 @@ def stubborn(Host, folder, package, root_of, count=20):
     time.sleep(0.5)
     begun = time.monotonic()
     host.end()
-    print(f"{count} programs that ignore their stop: all shut down in {time.monotonic() - begun:.2f} s")
+    print(f"{count} programs that ignore their stop: all shut down in {time.monotonic() - begun:.2f} s"
+          f"{AIMS['stubborn']}")
     host.remove()
 
 

@@ -3,9 +3,13 @@
 from __future__ import annotations
 
 import asyncio
+import contextlib
+import functools
 import io
 import json
 import os
+import shutil
+import signal
 import socket
 import struct
 import subprocess
@@ -14,20 +18,27 @@ import tempfile
 import time
 import unittest
 from pathlib import Path
-from unittest.mock import Mock, patch
+from typing import Any, Callable, Coroutine
+from unittest.mock import AsyncMock, Mock, patch
 
 from cm_tools.console import Unusable
-from cm_tools.host import doors, front, making, programs, seccomp, watching
-from cm_tools.host.doors import OPENED, PUT_OFF, can_be_kept
-from cm_tools.host.events import EVENTS, Log, Said, place_of, told
-from cm_tools.host.gate import removed_sockets
+from cm_tools.host import doors, events as events_module, front, making, programs, seccomp, watching
+from cm_tools.host.carried import Carried
+from cm_tools.host.consoles import Consoles
+from cm_tools.host.doors import OPENED, PUT_OFF, can_be_kept, connected_beneath
+from cm_tools.host.events import EVENTS, Log, Said, place_of, told, written
+from cm_tools.host.gate import Gate
 from cm_tools.host.instance import Instance
+from cm_tools.host.leftovers import remove, removed_few, removed_sockets
 from cm_tools.host.programs import Repo, Unfit
+from cm_tools.host.questions import Question
 from cm_tools.host.realm import Room
 from cm_tools.host.reports import TOP, Reports
 from cm_tools.host.sessions import Tally, count_of
 from cm_tools.host.settings import Settings
-from cm_tools.host.storage import Storage, counted
+from cm_tools.host.starts import UNSEEN, Starts
+from cm_tools.host.storage import Storage, Used, counted
+from cm_tools.host.succession import older
 from cm_tools.host.tree import Tree, commands, created_part
 from tests.support import SECONDS
 
@@ -83,6 +94,18 @@ class Programs(InFolder):
         self.assertEqual([(use.kind, use.path, use.source) for use in read.uses], [
             ("protocol", "/svc/p", "parent"), ("protocol", "/svc/q", "parent"),
             ("directory", "/d", "parent"), ("protocol", "/svc/s", "framework")])
+
+    def test_digest(self) -> None:
+        """host: manifests of the same bytes are told alike, however often written, and others apart"""
+        repo, url = Repo.of(self.folder), "fuchsia-pkg://h/p#meta/p.cm"
+        self.assertEqual(programs.digest(repo, url), programs.NOTHING)
+        found = []
+        for count, text in enumerate(("{}", "{ }", "{}", "{}  ")):
+            self.put("h/p/meta/p.cm", text)
+            os.utime(self.folder / "h/p/meta/p.cm", ns=(count, count))
+            found.append(programs.digest(repo, url))
+        self.assertEqual((found[0].size, found[0]), (2, found[2]))
+        self.assertEqual(len(set(found)), 3)
 
     def test_links(self) -> None:
         """host: a binary that is a link out of its package is refused"""
@@ -174,7 +197,7 @@ class Asked(InFolder):
         super().setUp()
         self.put("h/r/meta/r.cm", PARENT)
         self.tree = Tree(ROOT, Repo.of(self.folder), self.folder / "tree")
-        self.reports = Reports("/usr/bin/false", Repo.of(self.folder), self.tree)
+        self.reports = Reports("/usr/bin/false", Repo.of(self.folder), self.tree, Starts())
 
     def test_script(self) -> None:
         """host: a script for a report brings what was created above an instance, and nothing else"""
@@ -227,11 +250,22 @@ class Asked(InFolder):
         with open(os.open("file", os.O_CREAT | os.O_WRONLY, dir_fd=at), "wb") as file:
             file.write(bytes(1 << 20))
         os.close(at)
-        used = asyncio.run(counted(self.folder, 10_000))
+        used = self.counted(10_000)
         self.assertGreaterEqual(used.size, 1 << 20)
         self.assertEqual((used.files > 1500, used.is_whole), (True, True))
-        self.assertGreater(asyncio.run(counted(self.folder, 100)).files, 100)
+        self.assertGreater(self.counted(100).files, 100)
         subprocess.run(["rm", "-rf", str(self.folder / "deep")], check=True)
+
+    def counted(self, most: int) -> Used:
+        """What lies in the folder, looked at by a starter's process."""
+        async def count() -> Used:
+            starts = Starts()
+            try:
+                return await counted(starts, self.folder, most)
+            finally:
+                starts.close()
+
+        return watching.run(count())
 
 
 class Written(InFolder):
@@ -284,8 +318,140 @@ class Written(InFolder):
                          "shut       in_order True")
 
 
+    def test_written(self) -> None:
+        """host: a line of the log is JSON, whatever stands in it"""
+        line = {"at": 1796039158.323985, "n": 7, "b": True, "none": None, "list": [1, "x"],
+                "text": 'a "b"\n\\ \u00e9 \udc80'}
+        self.assertEqual(json.loads(written(line)), line)
+        self.assertEqual(written(line).count("\n"), 1)
+
+    def test_later(self) -> None:
+        """host: an event that may wait is written with the next one, before it, or by itself"""
+        log, waits = Log(self.folder, io.StringIO()), list[Callable[[], None]]()
+        log.call_later = lambda _, flush: waits.append(flush)
+        for number in 1, 2:
+            log.later("closed", connection=number)
+        self.assertEqual((self.folder / EVENTS).read_text(), "")
+        log.note("opened", connection=3)
+        log.later("closed", connection=3)
+        self.assertEqual(len(waits), 2)
+        for flush in waits:
+            flush()
+        events = [json.loads(line) for line in (self.folder / EVENTS).read_text().splitlines()]
+        self.assertEqual([(one["event"], one["connection"]) for one in events],
+                         [("closed", 1), ("closed", 2), ("opened", 3), ("closed", 3)])
+
+    def test_gone(self) -> None:
+        """host: of what instances printed that have gone the oldest goes, and that of no other"""
+        log = Log(self.folder, io.StringIO())
+        for count, name in enumerate(("known", "old", "older", "new", "newer")):
+            for place in place_of(self.folder, name), place_of(self.folder, name).with_suffix(".1"):
+                place.write_bytes(bytes(100))
+                os.utime(place, (count, count))
+        with patch.multiple(events_module, MOST_SAID=450, LOOK=2):
+            log.gone(["known"])
+            self.assertEqual(len(list(self.folder.glob("said-*"))), 10)
+            log.gone(["known"])
+        self.assertEqual(sorted(place.name for place in self.folder.glob("said-*")),
+                         sorted(f"said-{name}{end}" for name in ("known", "new", "newer")
+                                for end in (".1", ".log")))
+        self.assertTrue((self.folder / EVENTS).exists())
+
+    def test_journals(self) -> None:
+        """host: the journals that were written last are kept"""
+        for count in range(5):
+            self.put(f"{count}.journal", "x")
+            os.utime(self.folder / f"{count}.journal", (9 - count, 9 - count))
+        self.assertEqual(sorted(place.name for place in older(self.folder, 3)), ["3.journal", "4.journal"])
+
+
+class Consoled(unittest.TestCase):
+    """What consoles name."""
+
+    def test_numbers(self) -> None:
+        """host: an instance that a console names by a number is looked up by one line, once"""
+        ask = AsyncMock(side_effect=[["shown a/c:b incarnation 7 url x resolved on"], ["refused 81 gone"]])
+        manager = Mock(monikers={0: "."}, asked=Mock(consoles=Mock(ask=ask)))
+
+        async def look() -> list[str | None]:
+            consoles, names = Consoles(Mock()), ("@7", "@7", "@0", "a/b", "@8", "@x")
+            return [await consoles.moniker_of(manager, name) for name in names]
+
+        self.assertEqual(asyncio.run(look()), ["a/c:b", "a/c:b", ".", "a/b", None, None])
+        self.assertEqual([call.args for call in ask.call_args_list], [("show @7",), ("show @8",)])
+
+
 class Sockets(InFolder):
-    """What is left of the last start."""
+    """Where providers listen, and what is left of the last start."""
+
+    def provider(self) -> Instance:
+        return Instance(1, "a", self.folder / "i")
+
+    def listen(self, place: Path) -> socket.socket:
+        door = socket.socket(socket.AF_UNIX)
+        self.addCleanup(door.close)
+        door.bind(str(place))
+        door.listen(4)
+        return door
+
+    def meets(self, it: Instance, door: socket.socket, path: str = "/svc/p") -> bool:
+        """Whether a connection to what the provider has there comes to this door."""
+        with connected_beneath(it, path):
+            door.setblocking(False)
+            try:
+                door.accept()[0].close()
+                return True
+            except BlockingIOError:
+                return False
+
+    def test_stands(self) -> None:
+        """host: a provider is met where it listens now, also at a socket that took another one's place"""
+        it = self.provider()
+        place = it.out / "svc/p"
+        with self.assertRaises(FileNotFoundError):
+            connected_beneath(it, "/svc/p")
+        first = self.listen(place)
+        self.assertTrue(self.meets(it, first))
+        self.assertTrue(self.meets(it, first))
+        place.unlink()
+        with self.assertRaises(FileNotFoundError):
+            connected_beneath(it, "/svc/p")
+        second = self.listen(it.out / "other")
+        (it.out / "other").rename(place)
+        self.assertTrue(self.meets(it, second))
+        self.assertFalse(self.meets(it, first))
+        second.close()
+        with self.assertRaises(ConnectionRefusedError):
+            connected_beneath(it, "/svc/p")
+        self.assertEqual(it.listens, {})
+        third = self.listen(it.out / "top")
+        self.assertTrue(self.meets(it, third, "/top"))
+        open_now = len(os.listdir("/proc/self/fd"))
+        it.part()
+        self.assertEqual(len(os.listdir("/proc/self/fd")), open_now - 2)
+
+    def test_links(self) -> None:
+        """host: no link leads to a socket, at no part of a path, and not behind a connection either"""
+        it = self.provider()
+        aside = self.listen(self.folder / "aside")
+        (it.out / "svc/l").symlink_to(self.folder / "aside")
+        (it.out / "up").symlink_to(self.folder)
+        for path in "/svc/l", "/up/aside":
+            with self.assertRaises(OSError):
+                connected_beneath(it, path)
+        inside = self.listen(it.out / "svc/p")
+        self.assertTrue(self.meets(it, inside))
+        (it.out / "svc/p").unlink()
+        (it.out / "svc/p").symlink_to(self.folder / "aside")
+        with self.assertRaises(OSError):
+            connected_beneath(it, "/svc/p")
+        (it.out / "svc/p").unlink()
+        (it.out / "svc/p").write_text("x")
+        with self.assertRaises(PermissionError):
+            connected_beneath(it, "/svc/p")
+        aside.setblocking(False)
+        with self.assertRaises(BlockingIOError):
+            aside.accept()
 
     def test_removed(self) -> None:
         """host: sockets of the last start are removed; files and what links lead to stay"""
@@ -303,6 +469,305 @@ class Sockets(InFolder):
         self.assertTrue(kept.is_socket())
         self.assertFalse(removed_sockets(self.folder / "out", 3))
 
+    def test_removed_whole(self) -> None:
+        """host: a folder with little in it is removed; what links lead to stays, and what is large or deep"""
+        kept = self.folder / "kept"
+        kept.mkdir()
+        (kept / "file").write_text("x")
+        for name, most, gone in ("few", 9, True), ("many", 3, False), ("deep", 99, False):
+            folder = self.folder / name
+            (folder / ("a/" * (12 if name == "deep" else 2))).mkdir(parents=True)
+            (folder / "link").symlink_to(kept)
+            (folder / "a/link").symlink_to(kept)
+            (folder / "a/file").write_text("x")
+            self.assertEqual((removed_few(folder, most), folder.exists()), (gone, not gone), name)
+
+        async def removes() -> None:
+            starts = Starts()
+            (self.folder / "deep/a/a").chmod(0)
+            await remove(starts, self.folder / "deep")
+            starts.close()
+
+        watching.run(removes())
+        self.assertFalse((self.folder / "deep").exists())
+        self.assertEqual((kept / "file").read_text(), "x")
+
+
+class Started(InFolder):
+    """Processes that the starter begins."""
+
+    def started(self, work: Callable[[Starts], Coroutine[Any, Any, None]]) -> None:
+        """Does something with a starter of its own."""
+        async def works() -> None:
+            starts = Starts()
+            try:
+                await work(starts)
+            finally:
+                starts.close()
+
+        watching.run(asyncio.wait_for(works(), SECONDS))
+
+    def test_words(self) -> None:
+        """host: a process gets its words, streams and descriptors, and no others; its status is told"""
+        async def work(starts: Starts) -> None:
+            out, into = os.pipe()
+            inner, far = os.pipe()
+            script = "ls -l /proc/self/fd | wc -l; echo to the far one >&$1; echo no more >&2; exit 7"
+            begun = await starts.begin(("sh", "-c", script, "-", 0), (far, into), (None, 1, 1))
+            os.close(into)
+            os.close(far)
+            self.assertEqual(await begun.status, 7)
+            os.close(begun.descriptor)
+            # Three streams, the descriptor, and the one by which `ls` reads; and a line of its own.
+            self.assertEqual(await watching.read_all(out), b"6\nno more\n")
+            self.assertEqual(await watching.read_all(inner), b"to the far one\n")
+
+        self.started(work)
+
+    def test_many(self) -> None:
+        """host: many processes begin at once; each tells its own status"""
+        async def work(starts: Starts) -> None:
+            ran = await asyncio.gather(*(starts.run("sh", "-c", f"exit {count}") for count in range(60)))
+            self.assertEqual(ran, list(range(60)))
+            self.assertEqual((starts.ordered, starts.running), ({}, {}))
+
+        self.started(work)
+
+    def test_room(self) -> None:
+        """host: orders wait for room where the starter takes none, and none is lost"""
+        async def work(starts: Starts) -> None:
+            self.assertEqual(await starts.run("true"), 0)
+            assert starts.starter is not None
+            starts.starter.send_signal(signal.SIGSTOP)
+            asked = [asyncio.ensure_future(starts.run("true")) for _ in range(400)]
+            while len(starts.ordered) < 10:
+                await asyncio.sleep(0.01)
+            self.assertLess(len(starts.ordered), 400)
+            starts.starter.send_signal(signal.SIGCONT)
+            self.assertEqual(set(await asyncio.gather(*asked)), {0})
+
+        self.started(work)
+
+    def test_faults(self) -> None:
+        """host: a program that isn't there is an error, and one that takes too long is killed"""
+        async def work(starts: Starts) -> None:
+            with self.assertRaises(FileNotFoundError):
+                await starts.run(str(self.folder / "none"))
+            self.assertEqual(await starts.said(("wc", "-c"), b"four", SECONDS), (b"4\n", 0))
+            with self.assertRaises(asyncio.TimeoutError):
+                await starts.said(("sleep", "1000000"), b"", 0.05)
+            while starts.running:
+                await asyncio.sleep(0.01)
+
+        self.started(work)
+
+    def test_lost(self) -> None:
+        """host: where the starter is killed, what it began counts as ended, and another one goes on"""
+        async def work(starts: Starts) -> None:
+            begun = await starts.begin(("sleep", "1000000"))
+            assert starts.starter is not None
+            starts.starter.kill()
+            self.assertEqual(await begun.status, UNSEEN)
+            begun.kill()
+            os.close(begun.descriptor)
+            self.assertEqual(await starts.run("true"), 0)
+
+        self.started(work)
+
+    def test_who_has_gone(self) -> None:
+        """host: who asks for a process and is gone before it is there leaves none behind"""
+        async def work(starts: Starts) -> None:
+            asked = asyncio.ensure_future(starts.begin(("sleep", "1000000")))
+            await asyncio.sleep(0)
+            asked.cancel()
+            while starts.ordered or starts.running:
+                await asyncio.sleep(0.01)
+
+        self.started(work)
+
+
+class Watched(InFolder):
+    """What the loop calls."""
+
+    def test_same_number(self) -> None:
+        """host: what came for a socket that is closed isn't taken for that of another with its number"""
+        called: list[str] = []
+
+        async def work() -> None:
+            one, other, far, farther = (*socket.socketpair(), *socket.socketpair())
+            watches = [watching.watch(one), watching.watch(far)]
+            fresh: list[tuple[int, int]] = []
+
+            def close_the_other(name: int) -> None:
+                called.append("first")
+                for each in watches:
+                    each.end()
+                (far if name == 0 else one).close()
+                fresh.append(os.pipe())
+                watching.watch(fresh[0][0]).on_read(lambda: called.append("the pipe"))
+
+            for name, each in enumerate(watches):
+                each.on_read(functools.partial(close_the_other, name))
+            other.send(b"x")
+            farther.send(b"x")
+            await asyncio.sleep(0.05)
+            for each in one, other, far, farther:
+                each.close()
+
+        watching.run(work())
+        self.assertEqual(called, ["first"])
+
+
+class Carries(unittest.TestCase):
+    """What comes over a connection that is carried."""
+
+    def carries(self, one: Callable[[socket.socket], bytes], other: Callable[[socket.socket], bytes],
+                first: bytes = b"") -> tuple[bytes, bytes]:
+        """What a client and a provider return, each in a thread, of which the runner has the other ends."""
+        client, near = socket.socketpair()
+        far, provider = socket.socketpair()
+        ended: list[OSError | None] = []
+
+        async def work() -> tuple[bytes, bytes]:
+            Carried(watching.watcher(), near, far, lambda _, fault: ended.append(fault), first).begin()
+            both = await asyncio.gather(asyncio.to_thread(one, client), asyncio.to_thread(other, provider))
+            while not ended:
+                await asyncio.sleep(0.001)
+            return both[0], both[1]
+
+        with client, provider:
+            found = watching.run(asyncio.wait_for(work(), SECONDS))
+        self.assertEqual((near.fileno(), far.fileno()), (-1, -1))
+        return found
+
+    def test_half(self) -> None:
+        """host: who has said all still hears, and all of it comes, before what came first and behind it"""
+        def client(link: socket.socket) -> bytes:
+            link.sendall(b"question")
+            link.shutdown(socket.SHUT_WR)
+            time.sleep(0.05)
+            return all_of(link)
+
+        def provider(link: socket.socket) -> bytes:
+            asked = all_of(link)
+            link.sendall(bytes(1 << 20))
+            link.close()
+            return asked
+
+        self.assertEqual(self.carries(client, provider, b"first "), (bytes(1 << 20), b"first question"))
+
+    def test_closed(self) -> None:
+        """host: of one that closes all comes, and the other end is told, and takes nothing more"""
+        def client(link: socket.socket) -> bytes:
+            link.sendall(bytes(1 << 20))
+            link.close()
+            return b""
+
+        def provider(link: socket.socket) -> bytes:
+            time.sleep(0.05)
+            said = all_of(link)
+            with contextlib.suppress(OSError):
+                for _ in range(1000):
+                    link.sendall(bytes(1 << 20))
+                return b"it takes for ever"
+            return said
+
+        self.assertEqual(self.carries(client, provider), (b"", bytes(1 << 20)))
+
+
+    def test_gone(self) -> None:
+        """host: a connection ends when its client has closed both ways, whatever the provider does, and also
+        where that was before, or behind the end of what it said"""
+        def client(link: socket.socket) -> bytes:
+            link.shutdown(socket.SHUT_WR)
+            time.sleep(self.pause)
+            link.close()
+            return b""
+
+        def provider(link: socket.socket) -> bytes:
+            # It closes nothing, and sees that it is alone when it can't send any more.
+            with contextlib.suppress(OSError):
+                for _ in range(100_000):
+                    link.sendall(b"x")
+                    time.sleep(0.001)
+                return b"it takes for ever"
+            return b"alone"
+
+        for self.pause in 0.0, 0.05:
+            self.assertEqual(self.carries(client, provider), (b"", b"alone"))
+        (client_end, near), (far, provider_end) = socket.socketpair(), socket.socketpair()
+        client_end.close()
+        ended: list[OSError | None] = []
+
+        async def before() -> None:
+            Carried(watching.watcher(), near, far, lambda _, fault: ended.append(fault)).begin()
+            while not ended:
+                await asyncio.sleep(0.001)
+
+        with provider_end:
+            watching.run(asyncio.wait_for(before(), SECONDS))
+        self.assertEqual(ended, [None])
+
+
+def all_of(link: socket.socket) -> bytes:
+    """What comes until the other end has said all."""
+    read = b""
+    while piece := link.recv(1 << 16):
+        read += piece
+    return read
+
+
+class Asking(InFolder):
+    """What a manager asks over its gate."""
+
+    def asked(self, *lines: bytes, known: Any = None) -> tuple[Mock, list[bytes]]:
+        """The manager behind a question, of which each piece comes by itself, and what was answered."""
+        it, answers = Instance(1, "a", self.folder / "i"), list[bytes]()
+        manager = Mock(over=False, monikers={}, instances={3: it}, launching=0, number=1)
+        it.ends = Mock()
+
+        async def never(*_: object) -> str:
+            await asyncio.Future()
+            return ""
+
+        async def work() -> None:
+            runner = Mock()
+            gate = Gate(runner)
+            gate.known, gate.launch, gate.halt = Mock(side_effect=[known]), never, never
+            near, far = socket.socketpair()
+            near.setblocking(False)
+            with far:
+                Question(gate, manager, near)
+                for line in lines:
+                    far.send(line)
+                    await asyncio.sleep(0)
+                    self.states.append((manager.launching, it.stopping))
+                far.settimeout(0.1)
+                with contextlib.suppress(OSError):
+                    answers.append(far.recv(100))
+            self.told = [call.kwargs for call in runner.log.event.call_args_list]
+            near.close()
+
+        self.states: list[tuple[int, bool]] = []
+        watching.run(work())
+        return manager, answers
+
+    def test_at_once(self) -> None:
+        """host: what a manager asks counts as begun before anything else is done, also in pieces"""
+        manager, answers = self.asked(b"launch 7 3 elf", b" u a\n")
+        self.assertEqual((manager.monikers, self.states, answers), ({3: "a"}, [(0, False), (1, False)], []))
+        self.asked(b"halt 7 3 elf u a\n")
+        self.assertEqual(self.states, [(0, True)])
+        self.assertEqual(self.asked(b"launch 7 3 elf u a\n", known="declined")[1], [b"declined\n"])
+
+    def test_faults(self) -> None:
+        """host: where a question has no answer it is hung up on, and the fault is told"""
+        full = OSError(28, "No space left on device")
+        for line, known, why in ((b"begin 7 3 elf u a\n", None, "ValueError('begin is no question')"),
+                                 (b"launch 7 3 elf u a\n", full, "No space left on device")):
+            self.assertEqual(self.asked(line, known=known)[1], [b""])
+            self.assertEqual([told["why"] for told in self.told], [why])
+
 
 class Taken(InFolder):
     """The door of a use."""
@@ -318,7 +783,7 @@ class Taken(InFolder):
             link.setblocking(False)
             it = Instance(1, "a", self.folder / "i")
             clients = [socket.socket(socket.AF_UNIX) for _ in range(10)]
-            door = doors.Door(Mock(), it, "/svc/p", link)
+            door = doors.Door(Mock(watcher=watching.watcher()), it, "/svc/p", link)
             for client in clients:
                 client.connect(str(self.folder / "use"))
             with patch.object(doors.Opening, "begin", lambda one: taken.append(one.client)):
@@ -424,6 +889,17 @@ class Small(InFolder):
     def test_unit(self) -> None:
         """host: a unit quotes what its reader would take for something else"""
         self.assertIn('"50%% of $$x \\"y\\""', making.unit(Path("t"), "python3", "p", ['50% of $x "y"']))
+
+    @unittest.skipUnless(shutil.which("systemd-analyze"), "systemd-analyze isn't here")
+    def test_unit_is_read(self) -> None:
+        """host: the reader of units finds nothing wrong with a unit, and something with a wrong one"""
+        text = making.unit(Path(__file__), sys.executable, "p", ["50% of $x", "--run", str(self.folder)])
+        for name, unit in ("right", text), ("wrong", text.replace('ExecStart="', 'ExecStart="no/')):
+            self.put(f"{name}.service", unit)
+            words = ["systemd-analyze", "--user", "verify", str(self.folder / f"{name}.service")]
+            ran = subprocess.run(words, capture_output=True, text=True, timeout=SECONDS,
+                                 env={**os.environ, "XDG_RUNTIME_DIR": str(self.folder)})
+            self.assertEqual((ran.returncode, ran.stderr.strip()) == (0, ""), name == "right", ran.stderr)
 
     def test_new(self) -> None:
         """host: packages for one's own programs share a root, which offers what is provided and used"""

@@ -27,6 +27,7 @@ pub struct Words {
 /// A pass, and what a call is answered.
 pub type Answered = (Pass<Entry, Frame>, Result<Answer, Refusal>);
 
+/// Makes the call `resolve`.
 fn resolve<R: Threads + Wait + Sync>(
     rt: &R,
     alloc: Global,
@@ -40,6 +41,7 @@ fn resolve<R: Threads + Wait + Sync>(
     manager.resolve(rt, alloc, pass, &mut QuietGates, target)
 }
 
+/// Makes the call `start`.
 fn start<R: Threads + Wait + Sync>(
     rt: &R,
     alloc: Global,
@@ -53,6 +55,7 @@ fn start<R: Threads + Wait + Sync>(
     manager.start(rt, alloc, pass, &mut QuietGates, target)
 }
 
+/// Makes the call `stop`.
 fn stop<R: Threads + Wait + Sync>(
     rt: &R,
     alloc: Global,
@@ -66,6 +69,7 @@ fn stop<R: Threads + Wait + Sync>(
     manager.stop(rt, alloc, pass, &mut QuietGates, target)
 }
 
+/// Makes the call `shutdown`.
 fn shutdown<R: Threads + Wait + Sync>(
     rt: &R,
     alloc: Global,
@@ -79,6 +83,7 @@ fn shutdown<R: Threads + Wait + Sync>(
     manager.shutdown(rt, alloc, pass, &mut QuietGates, target)
 }
 
+/// Makes the call `create_child`, by the words that the line has for it.
 fn create_child<R: Threads + Wait + Sync>(
     rt: &R,
     alloc: Global,
@@ -103,6 +108,7 @@ fn create_child<R: Threads + Wait + Sync>(
     )
 }
 
+/// Makes the call `destroy_child`.
 fn destroy_child<R: Threads + Wait + Sync>(
     rt: &R,
     alloc: Global,
@@ -116,6 +122,7 @@ fn destroy_child<R: Threads + Wait + Sync>(
     manager.destroy_child(rt, alloc, pass, &mut QuietGates, target)
 }
 
+/// Makes the call `list_children`, of the words' collection.
 fn list_children<R: Threads + Wait + Sync>(
     rt: &R,
     alloc: Global,
@@ -130,6 +137,7 @@ fn list_children<R: Threads + Wait + Sync>(
     manager.list_children(rt, alloc, pass, &mut QuietGates, target, &words.coll)
 }
 
+/// Makes the call `open_use`, of the words' path.
 fn open_use<R: Threads + Wait + Sync>(
     rt: &R,
     alloc: Global,
@@ -144,6 +152,7 @@ fn open_use<R: Threads + Wait + Sync>(
     manager.open_use(rt, alloc, pass, &mut QuietGates, target, &words.path)
 }
 
+/// Makes the call `open_exposed`, of the words' name.
 fn open_exposed<R: Threads + Wait + Sync>(
     rt: &R,
     alloc: Global,
@@ -158,6 +167,7 @@ fn open_exposed<R: Threads + Wait + Sync>(
     manager.open_exposed(rt, alloc, pass, &mut QuietGates, target, &words.protocol)
 }
 
+/// Makes the call `route`, of the words' path.
 fn route<R: Threads + Wait + Sync>(
     rt: &R,
     alloc: Global,
@@ -172,6 +182,7 @@ fn route<R: Threads + Wait + Sync>(
     manager.route(rt, alloc, pass, &mut QuietGates, target, &words.path)
 }
 
+/// Makes the call `show`.
 fn show<R: Threads + Wait + Sync>(
     rt: &R,
     alloc: Global,
@@ -185,6 +196,7 @@ fn show<R: Threads + Wait + Sync>(
     manager.show(rt, alloc, pass, &mut QuietGates, target)
 }
 
+/// Makes the call `survey`.
 fn survey<R: Threads + Wait + Sync>(
     rt: &R,
     alloc: Global,
@@ -198,6 +210,7 @@ fn survey<R: Threads + Wait + Sync>(
     manager.survey(rt, alloc, pass, &mut QuietGates, target)
 }
 
+/// Makes the call `doctor`.
 fn doctor<R: Threads + Wait + Sync>(
     rt: &R,
     alloc: Global,
@@ -211,6 +224,7 @@ fn doctor<R: Threads + Wait + Sync>(
     manager.doctor(rt, alloc, pass, &mut QuietGates, target)
 }
 
+/// Makes the call `exited`.
 fn exited<R: Threads + Wait + Sync>(
     rt: &R,
     alloc: Global,
@@ -224,6 +238,7 @@ fn exited<R: Threads + Wait + Sync>(
     manager.exited(rt, alloc, pass, &mut QuietGates, target)
 }
 
+/// Makes the call `events`, from the first entry on.
 fn events<R: Threads + Wait + Sync>(
     rt: &R,
     alloc: Global,

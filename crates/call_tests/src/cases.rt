@@ -4,6 +4,8 @@
 /// collection.
 pub const ROOT: &str = "fuchsia-pkg://t/a#meta/root.cm";
 
+/// The manifest of the root: the two children, the collection, and the offer from one child to the
+/// other.
 pub const ROOT_MANIFEST: &str = "\
     {children:[{name:'logger',url:'#meta/logger.cm'},{name:'client',url:'#meta/client.cm'}],\
     collections:[{name:'coll',durability:'transient'}],\
@@ -12,15 +14,17 @@ pub const ROOT_MANIFEST: &str = "\
 /// The URL of the child that has the protocol, and its manifest.
 pub const LOGGER: &str = "fuchsia-pkg://t/a#meta/logger.cm";
 
+/// The manifest of the child that provides the protocol.
 pub const LOGGER_MANIFEST: &str = "\
     {program:{runner:'elf'},capabilities:[{protocol:'log'}],expose:[{protocol:'log',from:'self'}]}";
 
 /// The URL of the child that uses it, and of the one that is created, and their manifest.
 pub const CLIENT: &str = "fuchsia-pkg://t/a#meta/client.cm";
 
+/// The manifest of the child that uses it.
 pub const CLIENT_MANIFEST: &str = "{program:{runner:'elf'},use:[{protocol:'log'}]}";
 
-/// Each line is a call, the incarnation of its instance, and behind the arrow the answer and a number of it:
+/// Each line is a call, the incarnation of its instance, and after the arrow the answer and a number of it:
 /// of the action, of the instance, of hops, or of how many are told; 1 for a program that was on.
 pub const CALLS: &str = "\
     resolve 0 => resolved 1\n\

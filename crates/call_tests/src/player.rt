@@ -15,6 +15,7 @@ use std::alloc::Global;
 use std::sync::Wait;
 use std::thread::Threads;
 
+/// The name of this text; `None` where it is none, or memory runs out.
 fn name_of(alloc: Global, text: &str) -> Option<Name> {
     Name::read(alloc, text).ok()
 }
@@ -95,6 +96,7 @@ fn told_of(answer: &Answer) -> (&'static str, u64) {
     }
 }
 
+/// The word and the number that are told of an answer; `refused` and 0 for a refusal.
 fn told_by(came: &Result<Answer, Refusal>) -> (&'static str, u64) {
     match came {
         Ok(answer) => told_of(answer),
@@ -217,6 +219,7 @@ fn answers<R: Threads + Wait + Sync>(rt: &R, alloc: Global) -> Option<Text> {
     }
 }
 
+/// All prescribed calls are made by one caller, and answered as the table says.
 #[test]
 fn calls_are_answered(rt: HostRuntime) {
     let told = answers(&rt, rt.alloc());

@@ -1,5 +1,5 @@
 -- Promised.
--- What replies, and the ends of actions, mean for a call.
+-- What the replies to events, and the ends of actions, mean for the call that made them.
 use Rattle.std.specs.Prelude.{ℕ, Bool, true, false, Option, Some, None, Result, Ok, Err}
 use Rattle.cm_world.specs.declared.action.ActKind.{ActKind}
 use Rattle.cm_world.specs.declared.action.ActKind.TheVariants as kind
@@ -14,7 +14,7 @@ use Rattle.cm_world.specs.declared.answer.Answer.TheVariants as answer
 use Rattle.cm_world.specs.declared.answer.Refusal.{Refusal}
 use Rattle.cm_world.specs.declared.answer.Refusal.TheVariants as refusal
 
--- the refusal that a failed action makes, and none where it went well
+-- the refusal of a call whose action ended so; none where the action went well
 abbrev pub failure : ActKind → ℕ → Outcome → Option Refusal
 failure k a outcome.Resolved = None
 failure k a outcome.Started = None
@@ -24,13 +24,15 @@ failure k a outcome.NoMemory = Some refusal.Memory
 failure kind.Resolve a o = Some (refusal.CannotResolve a o)
 failure _ a o = Some (refusal.CannotStart a o)
 
--- what ends a call that needed this action
+-- the refusal that ends a call which needed this action, by what came of it; none where the call goes
+-- on
 abbrev pub ends_call : Result ActionResult Refusal → Option Refusal
 ends_call (Ok (acted.Ended k a o)) = failure k a o
 ends_call (Ok (acted.Quiet r)) = None
 ends_call (Err x) = Some x
 
--- what ends a call that only starts a row beside its answer: an eager child, or a child that runs once
+-- the refusal that ends a call which starts a child besides: only lack of memory and a refused turn
+-- end it
 abbrev pub ends_eager : Result ActionResult Refusal → Option Refusal
 ends_eager (Ok (acted.Ended k a outcome.NoMemory)) = Some refusal.Memory
 ends_eager (Ok _) = None
@@ -56,7 +58,7 @@ refusal_of (reply.Void hop) = refusal.VoidSource hop
 refusal_of (reply.SourceShut i) = refusal.SourceShut i
 refusal_of _ = refusal.Memory
 
--- the answer of a call with one event
+-- the answer to a command that makes one event, by the event's reply
 abbrev pub decision : Reply → Result Answer Refusal
 decision (reply.Created i) = Ok (answer.Created i)
 decision (reply.Listed kids) = Ok (answer.Children kids)
@@ -68,28 +70,30 @@ decision (reply.Left m) = Ok (answer.Left true)
 decision reply.Already = Ok (answer.Left false)
 decision r = Err (refusal_of r)
 
--- the answer of a call with one event: by its reply, or what ended it before
+-- the answer to a command that makes one event: by the event's reply, or the refusal that came before
+-- it
 abbrev pub decided_by : Result Reply Refusal → Result Answer Refusal
 decided_by (Ok r) = decision r
 decided_by (Err x) = Err x
 
--- the answer of a call that comes to this one unless something ends it before
+-- this answer, unless something ended the call before
 abbrev pub answer_unless : Answer → Option Refusal → Result Answer Refusal
 answer_unless a None = Ok a
 answer_unless a (Some x) = Err x
 
--- an answer, or what ended the call behind it
+-- this answer, unless something ended the call after it
 abbrev pub unless_ended : Option Refusal → Result Answer Refusal → Result Answer Refusal
 unless_ended None a = a
 unless_ended (Some x) a = Err x
 
--- the row that a finding gives
+-- the instance that a find came to, or why the call ends there
 abbrev pub found_by : Result Reply Refusal → Result ℕ Refusal
 found_by (Ok (reply.Found i)) = Ok i
 found_by (Ok r) = Err (refusal_of r)
 found_by (Err x) = Err x
 
--- what a call that acts answers: the action, or none where it was so already
+-- the answer of a call that acts: made of the action's number and outcome, or of none where it was so
+-- already
 abbrev pub acted_answer : (Option ℕ → Outcome → Answer) → Result ActionResult Refusal → Result Answer Refusal
 acted_answer made (Ok (acted.Ended k a o)) =
     elim (ends_call (Ok (acted.Ended k a o))) as (λ _. Result Answer Refusal) [
@@ -100,20 +104,24 @@ acted_answer made (Ok (acted.Quiet reply.Already)) = Ok (made None outcome.Resol
 acted_answer made (Ok (acted.Quiet r)) = Err (refusal_of r)
 acted_answer made (Err x) = Err x
 
+-- whether a stop went by force
 abbrev pub is_killed : Outcome → Bool
 is_killed outcome.Killed = true
 is_killed _ = false
 
+-- the answer to `resolve`, by what came of the action
 abbrev pub resolved_answer : Result ActionResult Refusal → Result Answer Refusal
 resolved_answer = acted_answer (λ a o. answer.Resolved a)
 
+-- the answer to `start`, by what came of the action
 abbrev pub started_answer : Result ActionResult Refusal → Result Answer Refusal
 started_answer = acted_answer (λ a o. answer.Started a)
 
+-- the answer to `stop`, by what came of the action; it tells whether that went by force
 abbrev pub stopped_answer : Result ActionResult Refusal → Result Answer Refusal
 stopped_answer = acted_answer (λ a o. answer.Stopped a (is_killed o))
 
--- the refusal that the reply to a mark makes, and none where the row is marked, now or before
+-- the refusal that the reply to a mark stands for; none where the row is marked, now or before
 abbrev pub unmarked : Reply → Option Refusal
 unmarked reply.Marked = None
 unmarked reply.Already = None

@@ -1,5 +1,5 @@
 -- Inside.
--- What a call asks of the instance that its target names, and by which event.
+-- What a command asks of the instance that it names, and by which event.
 use Rattle.std.specs.Prelude.{ℕ, Bool, true, false, Option, Some, None, Result}
 use Rattle.cm_world.specs.declared.action.ActKind.TheVariants as kind
 use Rattle.cm_world.specs.declared.answer.Refusal.{Refusal}
@@ -19,7 +19,7 @@ use Rattle.cm_answers.specs.declared.question.Follow.{Follow}
 use Rattle.cm_answers.specs.declared.question.Follow.TheVariants as follow
 use Rattle.cm_answers.specs.AnswersInside.{created_in, has_left}
 
--- the command that makes this request of a target
+-- the command that makes this request of this instance; requests are made by a single event
 abbrev pub requested_by : Target → Request → Command
 requested_by t (request.Create coll name url gives) = command.Create t coll.now name.now url.now gives.now
 requested_by t (request.List coll) = command.ListChildren t coll.now
@@ -30,7 +30,7 @@ requested_by t request.Show = command.Show t
 requested_by t request.Survey = command.Survey t
 requested_by t request.Exited = command.Exited t
 
--- the command that asks this of a target
+-- the command that asks this of this instance
 abbrev pub asked_by : Target → Question → Command
 asked_by t (question.Act kind.Resolve) = command.Resolve t
 asked_by t (question.Act kind.Start) = command.Start t
@@ -41,7 +41,7 @@ asked_by t question.Doctor = command.Doctor t
 asked_by t (question.Events from) = command.Events t from
 asked_by t (question.Event r) = requested_by t r
 
--- the event that makes this request of a row
+-- the event by which this request is made of a row
 abbrev pub event_for : Request → ℕ → Event
 event_for (request.Create coll name url gives) = λ i. event.Create i coll.now name.now url.now gives.now
 event_for (request.List coll) = λ i. event.Listing i coll.now
@@ -52,7 +52,7 @@ event_for request.Show = event.Show
 event_for request.Survey = event.Survey
 event_for request.Exited = event.Exited
 
--- the event that one turn makes
+-- the event that a turn makes; the turn has only borrowed its data
 abbrev pub event_of : EventRef → Event
 event_of (wish.Find m) = event.Find m.now
 event_of (wish.Ask r i) = event_for r i
@@ -62,17 +62,17 @@ event_of (wish.Pick t) = event.Pick t
 event_of (wish.Purge i) = event.Purge i
 event_of (wish.Reap i) = event.Reap i
 
--- behind a create the start of the child that it made, if it made one
+-- what follows a create: the start of the child that it made, if it made one
 abbrev pub started_for : Option ℕ → Follow
 started_for (Some i) = follow.Start i
 started_for None = follow.Nothing
 
--- behind an exit, where it found its program on, the removal of what went with the row
+-- what follows an exit: where it found the program on, what goes with the row is removed
 abbrev pub swept_for : ℕ → Bool → Follow
 swept_for i true = follow.Sweep i
 swept_for i false = follow.Nothing
 
--- what follows the reply to a request of a row
+-- what follows the reply to a request of row i
 abbrev pub follow_of : Request → ℕ → Result Reply Refusal → Follow
 follow_of (request.Create coll name url gives) i went = started_for (created_in went)
 follow_of request.Exited i went = swept_for i (has_left went)

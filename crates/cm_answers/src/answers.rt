@@ -88,7 +88,7 @@ pub fn unless_ended(answer: Answer, end: Option<Refusal>) -> Result<Answer, Refu
     }
 }
 
-/// The answer of a call, or what ended the call behind it.
+/// The answer of a call, or what ended the call after it.
 pub fn behind(end: Option<Refusal>, answer: Result<Answer, Refusal>) -> Result<Answer, Refusal>
     ensures { result ≡ spec.unless_ended end answer }
 {

@@ -56,7 +56,7 @@ pub fn acted(kind: ActKind, went: Result<ActionResult, Refusal>) -> Result<Answe
     }
 }
 
-/// Whether an action went well.
+/// Whether an action went well, so that the call that wanted it goes on.
 fn went_well(outcome: Outcome) -> bool
     ensures { result ≡ is_well outcome }
 {
@@ -66,7 +66,8 @@ fn went_well(outcome: Outcome) -> bool
     )
 }
 
-/// The same again where it ends a call that needed it, and `None` where the call goes on.
+/// What came of an action, handed back where it ends a call that needed it; `None` where the call goes
+/// on.
 pub fn if_failed(went: Result<ActionResult, Refusal>) -> Option<Result<ActionResult, Refusal>>
     ensures { FailsBy went result }
 {

@@ -42,7 +42,7 @@ pub fn doctored(lines: Result<List<Checked>, Refusal>) -> Result<Answer, Refusal
     }
 }
 
-/// The lines with that of a path behind them. `Err` where memory runs out.
+/// The lines with that of a path after them. `Err` where memory runs out.
 fn with_path(
     lines: List<Checked>,
     row: &SurveyRow,
@@ -69,7 +69,7 @@ fn with_path(
     Ok(all)
 }
 
-/// The lines with that of an instance behind them which isn't resolved. `Err` where memory runs
+/// The lines with that of an instance after them which isn't resolved. `Err` where memory runs
 /// out.
 pub fn with_unresolved(lines: List<Checked>, row: &SurveyRow) -> Result<List<Checked>, Memory>
     ensures { IfOk result (λ all. all ≡ lines ++ unresolved_line row.now.moniker ∷ []) }
@@ -106,7 +106,7 @@ fn end_in(found: &Result<Shared<Route>, Refusal>) -> Option<Refusal>
     }
 }
 
-/// The lines with that of a path behind them, for which this was found.
+/// The lines with that of a path after them, for which this was found.
 ///
 /// `Err` with what ends the check: `HistoryFull` where that was found, and `Memory` where memory
 /// ran out before or runs out.

@@ -20,7 +20,7 @@ pub enum Question<'a> {
     Destroy,
     /// Where all that it and those below it use comes from.
     Doctor,
-    /// What happened at and below it behind so many entries.
+    /// What happened at and below it after so many entries.
     Events(u64),
     /// What one event asks, with what follows it.
     Event(Request<'a>),

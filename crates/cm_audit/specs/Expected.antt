@@ -1,5 +1,5 @@
 -- Promised.
--- What is expected in the place of the reply of an entry that isn't legal.
+-- What is expected in the place of the reply of a journal's entry that isn't legal.
 use Rattle.std.specs.Prelude.{◌≡◌, ℕ, ◌++◌, codes, decimal}
 use Rattle.cm_world.specs.declared.event.Event.{Event}
 use Rattle.cm_world.specs.declared.event.Event.TheVariants.{Pick}
@@ -10,24 +10,24 @@ use Rattle.cm_world.specs.Laws.{IsPick}
 use Rattle.cm_reply.specs.Lists.{TextBytes}
 use Rattle.cm_reply.specs.Replies.{replied_text}
 
--- the text is that of no reply that the event may get
+-- this text is that of no reply that the event may get
 abbrev pub IsOther : World → ℕ → Event → TextBytes → Type 0
 IsOther w caller e given = (r : Reply) → Allowed w caller e r → given ≡ replied_text r → ⊥
 
--- the text for another number than the next, which is this
+-- what is expected where an entry has another number than this, the next
 abbrev pub number_text : ℕ → TextBytes
 number_text next = codes "number " ++ decimal next
 
--- the text for an event that isn't enabled
+-- what is expected where the caller can't make the event then
 abbrev pub no_step_text : TextBytes
 no_step_text = codes "no-such-step"
 
--- the text for a pick of an instance that may not be picked
+-- what is expected where a pick chose what may not be picked
 abbrev pub other_pick_text : TextBytes
 other_pick_text = codes "another-pick"
 
--- at an entry of that number, caller, event and reply, in a tree whose next entry has the first number: what
--- is expected, which is the first of these that applies
+-- what is expected at an entry of that number, caller, event and reply text, where the next number is
+-- `next`: the first of these that applies
 pub data Expects (w : World) (next : ℕ) : ℕ → ℕ → Event → TextBytes → TextBytes → Type 0 where
   number : {n caller : ℕ} {e : Event} {given : TextBytes}
       → (n ≡ next → ⊥)

@@ -1,5 +1,5 @@
 -- Promised.
--- Where the reading of a journal stands behind some of its lines, and which line leads on.
+-- Where the reading of a journal stands after some of its lines, and which line leads on.
 use Rattle.std.specs.Prelude.{◌≡◌, ℕ, ◌+◌, ◌-◌, ◌^◌, List, [], ◌∷◌, ◌++◌, length, codes}
 use Rattle.cm_world.specs.declared.frame.Builtin.{Builtin}
 use Rattle.cm_world.specs.declared.frame.Frame.{Frame}
@@ -16,30 +16,30 @@ use Rattle.cm_reply.specs.Lines.{IsEntryLine}
 
 -- ---- the lines before the entries
 
--- the line that a journal begins with
+-- the line that begins a journal; what a program printed before it is skipped
 abbrev pub journal_line : TextBytes
 journal_line = codes "journal"
 
--- the line of the root
+-- the line that tells the URL of the root
 abbrev pub root_text : TextBytes → TextBytes
 root_text url = codes "root " ++ url
 
--- what the entries are replayed from: as many instances as every run may have, and more entries than a
--- journal has room for
+-- what the entries are replayed from: the journal's root and builtins, with as many instances as every
+-- run may have, and more entries than a journal has room for
 abbrev pub frame_of : List Builtin → TextBytes → Frame
 frame_of builtins root =
     record { root = root; builtins = builtins; limits = record { rows = 65536; entries = 2 ^ 64 - 1 } }
 
 -- ---- from line to line
 
--- where the reading stands: before the line `journal`, behind it and the lines of some builtins, or
--- behind the line of the root and those of some entries
+-- where the reading stands: before the line `journal`, after it and the lines of some builtins, or
+-- after the line of the root and those of some entries
 pub data Stage : Type 0 where
   before : Stage
   head : List Builtin → Stage
   told : Frame → List Entry → Stage
 
--- the line is in the grammar there, is legal where it is an entry, and leads on
+-- the line is in the grammar at this stage, is legal where it is an entry, and leads to that stage
 pub data Reads : Stage → TextBytes → Stage → Type 0 where
   -- what stands before the journal is skipped, whatever it is
   skips : {t : TextBytes} → (t ≡ journal_line → ⊥) → Reads before t before
@@ -61,7 +61,7 @@ ReadsAll s (t ∷ ts) u = (m : Stage) × Reads s t m × ReadsAll m ts u
 
 -- ---- what doesn't lead on
 
--- the line isn't in the grammar there
+-- the line isn't in the grammar at this stage
 abbrev pub IsBad : Stage → TextBytes → Type 0
 IsBad before t = ⊥
 IsBad (head bs) t =
@@ -70,7 +70,7 @@ IsBad (head bs) t =
 IsBad (told f es) t = (number caller : ℕ) (e : Event) (reply : TextBytes)
     → IsEntryLine t number caller e reply → ⊥
 
--- no line of a root has come
+-- the reading hasn't come to the line of the root yet
 abbrev pub HasNoRoot : Stage → Type 0
 HasNoRoot (told f es) = ⊥
 HasNoRoot _ = Unit {0}

@@ -29,8 +29,8 @@ use Rattle.cm_audit.specs.Verdict.{IsVerdict, bytes_of, journal_limit}
 
 -- ---- places of a journal
 
--- the lines of the bytes are some that were read and led to this stage, of which none passes the limit, and
--- those of the rest, of which the first has that number
+-- the reading has taken some lines of the bytes, which led to this stage and are within the limit; the
+-- rest begins with the line of that number
 pub record IsAt (bytes : TextBytes) (number : ℕ) (rest : TextBytes) (stage : Stage) : Type 0 where
   pub prefix : List TextBytes
   pub lines : lines_of bytes ≡ prefix ++ lines_of rest
@@ -41,7 +41,8 @@ pub record IsAt (bytes : TextBytes) (number : ℕ) (rest : TextBytes) (stage : S
   pub early : number ≤ bytes_of bytes prefix + 1
   pub reads : ReadsAll before prefix stage
 
--- the line and what stands behind it are the rest of so many bytes, and it ends within the limit
+-- the rest of a journal of `size` bytes begins with line t, which ends within the limit, and goes on
+-- with `behind`
 pub record IsCut (size : ℕ) (rest t behind : TextBytes) : Type 0 where
   pub lines : lines_of rest ≡ t ∷ lines_of behind
   pub end : min (length rest) (length t + 1) + length behind ≡ length rest
@@ -49,7 +50,7 @@ pub record IsCut (size : ℕ) (rest t behind : TextBytes) : Type 0 where
   pub within : size ≤ journal_limit + length behind
   pub short : length t ≤ journal_limit
 
--- the first line of the rest of so many bytes passes the limit
+-- the first line of the rest of a journal of `size` bytes passes the limit
 pub record PassesLimit (size : ℕ) (rest : TextBytes) : Type 0 where
   pub line : TextBytes
   pub behind : TextBytes
@@ -62,7 +63,7 @@ abbrev pub IsStop : TextBytes → ReadingStop → Type 0
 IsStop bytes (stop.Verdict verdict) = IsVerdict bytes verdict
 IsStop bytes stop.Memory = Unit {0}
 
--- the fault of a line of that number, as it ends the reading
+-- how a fault of the line with this number ends the reading
 abbrev pub stop_at : ℕ → JournalLineFault → ReadingStop
 stop_at number fault.Bad = stop.Verdict (audit.BadText number)
 stop_at number (fault.Illegal n given expected) = stop.Verdict (audit.Illegal n given expected)
@@ -70,24 +71,25 @@ stop_at number fault.Memory = stop.Memory
 
 -- ---- one line
 
--- what a line before the entries says
+-- what a line before the entries says: a builtin, the root, or nothing that is in the grammar there
 abbrev pub IsHeadLine : TextBytes → HeadLine → Type 0
 IsHeadLine t (said.Builtin b) = IsLegibleBuiltin b × (t ≡ builtin_text b)
 IsHeadLine t (said.Root url) = IsUrlText url × (t ≡ root_text url)
 IsHeadLine t said.Other = IsBad (head []) t
 
--- the stage behind the entries of a realm
+-- the stage after the entries of a history
 abbrev pub stage_of : Story → Stage
 stage_of s = told s.frame s.entries
 
--- the line is an entry that isn't legal, with the number and the reply that stand there and what is expected
+-- the line is an entry that isn't legal after this history, with the number and reply that it has and
+-- what is expected
 pub record IsIllegal (s : Story) (t : TextBytes) (number : ℕ) (given expected : TextBytes) : Type 0 where
   pub caller : ℕ
   pub event : Event
   pub line : IsEntryLine t number caller event given
   pub expects : Expects (world_of s) (length s.entries + 1) number caller event given expected
 
--- what is wrong with a line behind the entries of a realm
+-- what is wrong with a line after the entries of this history
 abbrev pub IsJournalLineFault : Story → TextBytes → JournalLineFault → Type 0
 IsJournalLineFault s t fault.Bad = IsBad (stage_of s) t
 IsJournalLineFault s t (fault.Illegal number given expected) = IsIllegal s t number given expected
@@ -95,27 +97,28 @@ IsJournalLineFault s t fault.Memory = Unit {0}
 
 -- ---- one event, with the reply that a journal gives it
 
--- the realm made the step, and this is the text of its reply
+-- the event was made in the realm, and the reply has this text
 pub record StepTaken (old new : Story) (caller : ℕ) (event : Event) (given : TextBytes) : Type 0 where
   pub reply : Reply
   pub tells : AddsEntry old new caller event reply
   pub same : given ≡ replied_text reply
 
--- the event is legal with that reply, and the realm made its step; or this is expected in its place
+-- the event is legal with the given reply, and was made in the realm; or something else is expected in
+-- its place
 abbrev pub IsEntryJudged : Story → Story → ℕ → Event → TextBytes → Option TextBytes → Type 0
 IsEntryJudged old new caller event given None = StepTaken old new caller event given
 IsEntryJudged old new caller event given (Some expected) =
     let next = length old.entries + 1 in
     Expects (world_of old) next next caller event given expected
 
--- a text from which the row is read that a pick's reply tells, if it is the text of one that tells a row
+-- the row that a text of a pick's reply names, if it is the text of a reply that names one
 abbrev pub TellsRow : TextBytes → Option ℕ → Type 0
 TellsRow given None =
     (t i : ℕ) (r : Reply) → picked_by (Pick t) r ≡ Some i → i < 2 ^ 64 → given ≡ replied_text r → ⊥
 TellsRow given (Some row) =
     (t i : ℕ) (r : Reply) → picked_by (Pick t) r ≡ Some i → i < 2 ^ 64 → given ≡ replied_text r → i ≡ row
 
--- no reply that a pick may get and that picks a row has this text
+-- this is the text of no reply that the pick may get and that chooses a row
 abbrev pub TellsNoPick : World → ℕ → TextBytes → Type 0
 TellsNoPick w target given =
     (i : ℕ) (r : Reply)

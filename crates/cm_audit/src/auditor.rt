@@ -31,7 +31,7 @@ const LIMITS: Limits = Limits {
 /// each instance that may stop, whichever the realm itself would take.
 ///
 /// What comes first decides: an entry that isn't legal, or a line that isn't in the grammar, among
-/// them the one that ends behind 268,435,456 bytes. [`Audit`] says what is told of it. Which events a
+/// them the one that ends after 268,435,456 bytes. [`Audit`] says what is told of it. Which events a
 /// caller may make, and what they come to, is this project's own model of Fuchsia's component manager
 /// (`cm_world`).
 ///

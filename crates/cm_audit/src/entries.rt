@@ -87,7 +87,8 @@ fn judge_entry(alloc: Global, realm: &mut Realm, entry: JournalLine) -> Result<(
     }
 }
 
-/// That this is expected in the place of an entry's reply.
+/// The fault of a line that is an entry which isn't legal: its number, its reply's text, and what is
+/// expected there.
 fn illegal(number: u64, given: Text, expected: Text) -> JournalLineFault
     ensures { result ≡ JournalLineFault.Illegal number given expected }
 {

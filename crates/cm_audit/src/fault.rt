@@ -21,12 +21,13 @@ impl From<Memory> for ReadingStop {
 
     ghost from_gives = { λ _ e. e ≡ OutOfMemory };
 
+    /// For `?` after a call that lacked memory.
     fn from(_: Memory) -> ReadingStop {
         ReadingStop::Memory
     }
 }
 
-/// What is wrong with a line behind that of the root.
+/// What is wrong with a line after that of the root.
 #[derive(Drop)]
 pub enum JournalLineFault {
     /// It is no entry.
@@ -50,6 +51,7 @@ impl From<Memory> for JournalLineFault {
 
     ghost from_gives = { λ _ e. e ≡ OutOfMemory };
 
+    /// For `?` after a call that lacked memory.
     fn from(_: Memory) -> JournalLineFault {
         JournalLineFault::Memory
     }

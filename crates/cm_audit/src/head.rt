@@ -41,7 +41,7 @@ pub struct JournalPlace<'a> {
     pub rest: &'a [u8],
 }
 
-/// What stands behind the line of the root.
+/// What stands after the line of the root.
 #[derive(Drop)]
 pub struct AfterRoot<'a> {
     /// The number of the first line that is left.
@@ -52,7 +52,7 @@ pub struct AfterRoot<'a> {
     pub root: Text,
 }
 
-/// What stands behind the first line `journal`. What stands before it is skipped.
+/// What stands after the first line `journal`. What stands before it is skipped.
 pub fn find_journal(text: &[u8]) -> Result<JournalPlace<'_>, ReadingStop>
     ensures { MatchResult result
         (λ place. IsAt text.now place.number place.rest.now (head []))
@@ -73,7 +73,7 @@ pub fn find_journal(text: &[u8]) -> Result<JournalPlace<'_>, ReadingStop>
     Err(bad_text(number))
 }
 
-/// Takes the lines of the builtin capabilities and that of the root, which stand behind the line
+/// Takes the lines of the builtin capabilities and that of the root, which stand after the line
 /// `journal`. The capabilities are put into a list that is empty before.
 ///
 /// That a capability is there twice is no fault: the first one is found by its name then.
@@ -134,7 +134,7 @@ fn read_head_line(alloc: Global, line: &[u8]) -> Result<HeadLine, Memory>
     Ok(HeadLine::Other)
 }
 
-/// The URL that stands behind the word `root`. `Err` where memory runs out.
+/// The URL that stands after the word `root`. `Err` where memory runs out.
 fn read_root(alloc: Global, url: &[u8]) -> Result<Option<Text>, Memory>
     ensures { IfOk result (λ found. MatchOption found (IsUrlText url.now → ⊥)
         (λ text. (text ≡ url.now) × IsUrlText url.now)) }

@@ -38,7 +38,8 @@ pub fn judge(
     }
 }
 
-/// The same of an event that isn't a pick. It gets one reply.
+/// Judges an event that isn't a pick, and so gets one reply; makes its step where the reply is the
+/// given one.
 fn judge_other(
     alloc: Global,
     realm: &mut Realm,

@@ -11,7 +11,7 @@ pub fn one_verdict()
     ensures { OneVerdict }
 {}
 
-/// Of the replies that an event may get behind a legal history no two are written alike. So a journal
+/// Of the replies that an event may get after a legal history no two are written alike. So a journal
 /// tells one history, though it has the texts of replies alone.
 pub fn texts_tell_replies()
     ensures { TextsTellReplies }
@@ -23,7 +23,7 @@ pub fn prefixes_tell()
     ensures { PrefixesTell }
 {}
 
-/// The incarnations of all instances have 64 bits, behind every legal history.
+/// The incarnations of all instances have 64 bits, after every legal history.
 pub fn incarnations_fit()
     ensures { IncarnationsFit }
 {}

@@ -8,17 +8,17 @@ use cm_command::cut_line;
 /// The most bytes of a journal, with all that stands before it.
 const JOURNAL_LIMIT: usize = 268_435_456;
 
-/// A line, and what stands behind it.
+/// A line, and what stands after it.
 #[derive(Clone, Copy)]
 pub struct Cut<'a> {
     /// The line, without its line feed.
     pub line: &'a [u8],
-    /// What stands behind it.
+    /// What stands after it.
     pub behind: &'a [u8],
 }
 
-/// The first line of the rest of so many bytes, and what stands behind it; nothing where the line
-/// passes the limit.
+/// The first line of what is left of a journal of `size` bytes, and what stands after it; nothing where
+/// the journal up to that line's end passes the limit.
 pub fn cut_within(size: usize, rest: &[u8]) -> Option<Cut<'_>>
     requires some { 0 < length rest.now }
     requires within { length rest.now ≤ size }

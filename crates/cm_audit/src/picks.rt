@@ -44,7 +44,7 @@ pub fn judge_pick(
     }
 }
 
-/// The same where the reply, if it is one that picks an instance, tells of this one.
+/// Judges a pick whose given reply tells that it picks this instance, if it tells one.
 fn judge_told_pick(
     alloc: Global,
     realm: &mut Realm,
@@ -70,7 +70,7 @@ fn judge_told_pick(
     }
 }
 
-/// The same by the pick that the realm itself would make.
+/// Judges a pick by the one that the realm itself would make.
 fn judge_own_pick(
     alloc: Global,
     realm: &mut Realm,
@@ -91,7 +91,8 @@ fn judge_own_pick(
     other_pick(alloc, reply, given)
 }
 
-/// That another pick is expected, unless the reply's text is the given one. `Err` where memory runs out.
+/// `another-pick`, where the reply's text isn't the given one; `None` where it is. `Err` where memory
+/// runs out.
 fn other_pick(alloc: Global, reply: Reply, given: &str) -> Result<Option<Text>, Memory>
     ensures { IfOk result (λ other. MatchOption other (given.now ≡ spec.replied_text reply)
         (λ text. (text ≡ other_pick_text) × (given.now ≢ spec.replied_text reply))) }

@@ -23,7 +23,7 @@ pub enum Audit {
         /// `another-pick` for an event `pick`; and else the text of the reply that the event gets.
         expected: Text,
     },
-    /// The first line that isn't in the grammar, counted from 1; the line behind the last where no
+    /// The first line that isn't in the grammar, counted from 1; the line after the last where no
     /// line `journal` or no line of a root has come; or the line with which the journal has more than
     /// 268,435,456 bytes.
     BadText(u32),
@@ -35,6 +35,7 @@ impl fmt::Display for Audit {
 
     ghost output = { λ verdict. Some (verdict_text verdict) };
 
+    /// Writes the verdict's words, as `audit` prints them.
     fn fmt<W: fmt::Write>(&self, f: &mut fmt::Formatter<W>) -> fmt::Result {
         match self {
             Audit::Legal(count) => write!(f, "legal {count}"),

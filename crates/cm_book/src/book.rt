@@ -26,6 +26,7 @@ pub struct Book {
 }
 
 impl Drop for Book {
+    /// Called where the value goes: gives back the memory of its parts.
     fn drop(self) {
         let Book {
             entries: _,

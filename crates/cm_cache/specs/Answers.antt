@@ -1,7 +1,7 @@
 -- Promised.
--- What contracts see of a cache: its answers, in the order in which their uses came.
+-- The size of the cache, which keeps what walks from uses came to.
 use Rattle.std.specs.Prelude.{ℕ}
 
--- how many answers are kept at most
+-- a cache keeps at most so many answers
 abbrev pub most : ℕ
 most = 16384

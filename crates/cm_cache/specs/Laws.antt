@@ -21,20 +21,20 @@ use Rattle.cm_cache.specs.AnswersInside.{kept_at, put_in}
 use Rattle.cm_cache.specs.Keeping.{UseKey, KeptUses, KeepsUses, IsKeptOf, forgets, has_use, with_use}
 use Rattle.cm_cache.specs.Right.{bare, uses_of, AreRight}
 
--- what is left of the others before the answer to this use is put: all, unless it is new and the list is full
+-- what a put leaves of the other answers: all, unless the use is new and the cache is full
 abbrev pub left_for : List CachedAnswer → ℕ → List ℕ → List CachedAnswer
 left_for answers i path =
     if is_some (kept_at answers i path) then answers
     else if nat_le most (length answers) then [] else answers
 
--- behind a put its use has this answer, each other one what was left of it
+-- after a put its use has this answer, and each other use what was left of it
 abbrev pub WhatIsPutIsKept : Type 0
 WhatIsPutIsKept =
     (answers : List CachedAnswer) (i j : ℕ) (path other : List ℕ) (v : Walked)
     → kept_at (put_in answers i path v) j other
     ≡ (if (i == j) && bytes_eq path other then Some v else kept_at (left_for answers i path) j other)
 
--- a history keeps at most one list of uses, with one number
+-- what a history keeps is fixed by its entries
 abbrev pub HistoriesKeepOnce : Type 0
 HistoriesKeepOnce =
     (f : Frame) (es : List Entry) (k l : KeptUses) → IsKeptOf f es k → IsKeptOf f es l → k ≡ l
@@ -45,36 +45,36 @@ TreesAreOrderly =
     (f : Frame) (es : List Entry) → Legal (start f) es
     → IsOrderly (replay (start f) es).rows (replay (start f) es).next_inc
 
--- where they are, a legal history keeps some
+-- where trees are orderly, every legal history keeps something by these rules
 abbrev pub HistoriesKeep : Type 0
 HistoriesKeep =
     TreesAreOrderly → (f : Frame) (es : List Entry) → Legal (start f) es → (k : KeptUses) × IsKeptOf f es k
 
--- what is kept behind an entry more
+-- what one more entry keeps is what the longer history keeps
 abbrev pub KeepingGoesOn : Type 0
 KeepingGoesOn =
     (f : Frame) (es : List Entry) (e : Entry) (k l : KeptUses) → IsKeptOf f es k
     → KeepsUses (replay (start f) es) e k l → IsKeptOf f (es ++ e ∷ []) l
 
--- uses are at most as many as are kept at most, and the number is at most that of the entries
+-- the uses are within the limit, and there are no more hits than entries
 abbrev pub KeptAreFew : Type 0
 KeptAreFew =
     (f : Frame) (es : List Entry) (k : KeptUses) → IsKeptOf f es k
     → (length k.uses ≤ most) × (k.number ≤ length es)
 
--- trees that are the same without what no walk reads have the same walks
+-- trees that differ only in what no walk reads have the same walks
 abbrev pub WalksReadBareRows : Type 0
 WalksReadBareRows =
     (rows others : List Row) (builtins : List Builtin) (begin : Start) (v : Walked)
     → map bare rows ≡ map bare others → IsWalked rows builtins begin v → IsWalked others builtins begin v
 
--- an entry that doesn't empty what is kept leaves these rows as they are
+-- an entry that doesn't empty the cache changes nothing that a walk reads
 abbrev pub BareRowsStay : Type 0
 BareRowsStay =
     (w : World) (e : Entry) → IncarnationsIncrease w.next_inc w.rows → forgets w e ≡ false
     → map bare (after w e).rows ≡ map bare w.rows
 
--- so each walk comes to what it came to before
+-- so after such an entry each walk comes to what it came to before
 abbrev pub WalksStay : Type 0
 WalksStay =
     (w : World) (e : Entry) (builtins : List Builtin) (begin : Start) (v : Walked)
@@ -89,13 +89,13 @@ UsesAreKept =
     (answers : List CachedAnswer) (u : UseKey)
     → has_use (uses_of answers) u ≡ is_some (kept_at answers u.inc u.path)
 
--- a put for another use adds it to them as a history does
+-- a put for a new use adds it as a history does
 abbrev pub PutsAddUses : Type 0
 PutsAddUses =
     (answers : List CachedAnswer) (i : ℕ) (path : List ℕ) (v : Walked) → kept_at answers i path ≡ None
     → uses_of (put_in answers i path v) ≡ with_use (record { inc = i; path = path }) (uses_of answers)
 
--- of right answers the one that is kept for a use is that of its walk
+-- where all answers are right, the one that is kept for a use is that of its walk
 abbrev pub RightAnswers : Type 0
 RightAnswers =
     (rows : List Row) (builtins : List Builtin) (answers : List CachedAnswer) (i : ℕ) (path : List ℕ)
@@ -103,7 +103,7 @@ RightAnswers =
     → AreRight rows builtins answers → kept_at answers i path ≡ Some v
     → IsWalked rows builtins (UseAt i path) v
 
--- the answer of a walk, put for another use, leaves them right
+-- putting what a walk comes to leaves the answers right
 abbrev pub PutsStayRight : Type 0
 PutsStayRight =
     (rows : List Row) (builtins : List Builtin) (answers : List CachedAnswer) (i : ℕ) (path : List ℕ)
@@ -111,7 +111,7 @@ PutsStayRight =
     → AreRight rows builtins answers → kept_at answers i path ≡ None → IsWalked rows builtins (UseAt i path) v
     → AreRight rows builtins (put_in answers i path v)
 
--- and so does an entry that doesn't empty what is kept
+-- an entry that doesn't empty the cache leaves the answers right
 abbrev pub AnswersStayRight : Type 0
 AnswersStayRight =
     (w : World) (e : Entry) (builtins : List Builtin) (answers : List CachedAnswer)

@@ -1,5 +1,5 @@
 -- Inside.
--- How a cache finds its answers.
+-- How a cache finds its answers: an index by instance and path.
 use Rattle.std.specs.Prelude.{◌≡◌, ℕ, ◌+◌, List, [], ◌∷◌, Bool, Option, Some, None, option_map}
 use Rattle.std.specs.Prelude.{option_and_then, if◌then◌else◌}
 use Rattle.std.specs.Ordering.{nat_cmp}
@@ -8,11 +8,11 @@ use Rattle.std.specs.BTreeMap.{BTreeMap, get}
 use Rattle.cm_cache.specs.declared.cache.Cache.TheInside.{Inside}
 use Rattle.cm_cache.specs.AnswersInside.{is_of}
 
--- the number of a path
+-- the place of the answer for a path, in the index of one instance
 abbrev pub place_at : BTreeMap (List ℕ) ℕ → List ℕ → Option ℕ
 place_at paths path = get (slice_cmp nat_cmp) paths path
 
--- the number of the use of a path by an instance
+-- the place of the answer for the use of a path by instance i, in the whole index
 abbrev pub placed : BTreeMap ℕ (BTreeMap (List ℕ) ℕ) → ℕ → List ℕ → Option ℕ
 placed places i path = option_and_then (λ paths. place_at paths path) (get nat_cmp places i)
 
@@ -21,6 +21,6 @@ abbrev pub place_of : {A : Type 0} → (A → Bool) → List A → Option ℕ
 place_of passes [] = None
 place_of passes (x ∷ xs) = if passes x then Some 0 else option_map (λ n. n + 1) (place_of passes xs)
 
--- each use has the number of the place of its answer
+-- what always holds of a cache: its index has each use's answer at its place
 pub record IsIndexedByUse (a : Inside) : Type 0 where
   pub each : (i : ℕ) (path : List ℕ) → placed a.places i path ≡ place_of (is_of i path) a.answers.items

@@ -1,5 +1,5 @@
 -- Inside.
--- Answers that are those of the walks in a tree, and what of a tree walks read.
+-- Answers that are those of walks in a tree, and what of a tree walks read.
 use Rattle.std.specs.Prelude.{List, [], ◌∷◌, false, None, map}
 use Rattle.cm_world.specs.declared.row.Row.{Row}
 use Rattle.cm_world.specs.declared.frame.Builtin.{Builtin}
@@ -8,16 +8,16 @@ use Rattle.cm_world.specs.Route.{IsWalked}
 use Rattle.cm_cache.specs.declared.answer.CachedAnswer.{CachedAnswer}
 use Rattle.cm_cache.specs.Keeping.{UseKey}
 
--- the uses that answers were put for
+-- the uses of these answers
 abbrev pub uses_of : List CachedAnswer → List UseKey
 uses_of answers = map (λ a. record { inc = a.inc; path = a.path }) answers
 
--- each answer is that of the walk in this tree
+-- each of these answers is that of the walk in this tree
 abbrev pub AreRight : List Row → List Builtin → List CachedAnswer → Type 0
 AreRight rows builtins [] = Unit {0}
 AreRight rows builtins (a ∷ rest) =
     IsWalked rows builtins (UseAt a.inc a.path) a.walked × AreRight rows builtins rest
 
--- a row without what no walk reads: whether it is on, its pending action, whether it is closing and shut
+-- a row as walks read it: without whether it is on, pending, closing and shut
 abbrev pub bare : Row → Row
 bare r = record r { on = false; pending = None; closing = false; shut = false }

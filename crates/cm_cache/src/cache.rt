@@ -83,7 +83,7 @@ impl Cache {
         }
     }
 
-    /// Forgets all answers.
+    /// Forgets all answers; an entry may have changed walks.
     pub fn forget_all(&mut self)
         ensures { self.new ≡ [] }
     {
@@ -115,7 +115,7 @@ impl Cache {
         Ok(())
     }
 
-    /// Puts the answer to a use of which none is kept behind the others.
+    /// Puts the answer to a use of which none is kept after the others.
     fn join(&mut self, inc: u64, path: CapPath, walked: Walked) -> Result<(), Memory>
         requires { kept_at self.old inc path ≡ None }
         ensures ok { OnOk result (self.new ≡ self.old ++ answer_of inc path walked ∷ []) }

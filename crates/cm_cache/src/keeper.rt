@@ -168,7 +168,8 @@ fn comes_or_goes(reply: &Reply) -> bool
     }
 }
 
-/// Whether an answer is kept.
+/// Whether what a walk came to is kept: not where it waits for a declaration, nor a route of more than
+/// 64 hops.
 fn lasts(walked: &Walked) -> bool
     ensures { result ≡ keeping.is_lasting walked.now }
 {

@@ -6,7 +6,7 @@
 ghost use Rattle.cm_cache.specs.Laws as laws;
 ghost use Rattle.cm_cache.specs.Steps as steps;
 
-/// Behind a put a cache keeps the answer that was put for its use, and for each other use what it
+/// After a put a cache keeps the answer that was put for its use, and for each other use what it
 /// kept before, or nothing where it was emptied first.
 pub fn what_is_put_is_kept()
     ensures { laws.WhatIsPutIsKept }
@@ -54,8 +54,8 @@ pub fn caches_follow()
     ensures puts { laws.PutsAddUses }
 {}
 
-/// Answers that are those of the walks in a tree stay so behind a put of another walk's answer, and
-/// behind each entry that doesn't empty what is kept.
+/// Answers that are those of the walks in a tree stay so after a put of another walk's answer, and
+/// after each entry that doesn't empty what is kept.
 pub fn answers_stay_right()
     ensures answers { laws.RightAnswers }
     ensures puts { laws.PutsStayRight }

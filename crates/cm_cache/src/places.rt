@@ -11,7 +11,7 @@ use std::collections::BTreeMap;
 /// The numbers of an instance's uses, by their paths.
 pub(crate) type Paths = BTreeMap<CapPath, usize>;
 
-/// The number of that path.
+/// The number of the answer for that path, in the index of one instance.
 fn number_of(paths: &Paths, path: &CapPath) -> Option<usize>
     ensures { result ≡ place_at paths.now path.now }
 {
@@ -21,7 +21,7 @@ fn number_of(paths: &Paths, path: &CapPath) -> Option<usize>
     }
 }
 
-/// The number of that use.
+/// The number of the answer for the use of a path by an instance, in the index.
 pub(crate) fn find(places: &BTreeMap<u64, Paths>, inc: u64, path: &CapPath) -> Option<usize>
     ensures { result ≡ placed places.now inc path.now }
 {

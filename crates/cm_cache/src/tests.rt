@@ -16,12 +16,14 @@ fn keeps(alloc: Global, cache: &Cache, inc: u64, path: &str, other: u64) -> Resu
     }
 }
 
+/// Puts into the cache that the walk from this use waits for the row `other`.
 fn put(alloc: Global, cache: &mut Cache, inc: u64, path: &str, other: u64) -> Result<(), Fail> {
     let path = CapPath::read(alloc, path)?;
     cache.put(inc, path, Walked::Need(other))?;
     Ok(())
 }
 
+/// Puts three answers, and then another in the place of the first.
 fn put_some(alloc: Global, cache: &mut Cache) -> Result<(), Fail> {
     put(alloc, cache, 1, "/svc/a", 11)?;
     put(alloc, cache, 1, "/svc/b", 12)?;
@@ -29,6 +31,7 @@ fn put_some(alloc: Global, cache: &mut Cache) -> Result<(), Fail> {
     put(alloc, cache, 1, "/svc/a", 13)
 }
 
+/// Whether the cache has what [`put_some`] left.
 fn keeps_some(alloc: Global, cache: &Cache) -> Result<bool, Fail> {
     let first = keeps(alloc, cache, 1, "/svc/a", 13)?;
     let second = keeps(alloc, cache, 1, "/svc/b", 12)?;
@@ -44,6 +47,8 @@ fn fill(alloc: Global, cache: &mut Cache) -> Result<(), Fail> {
     put(alloc, cache, 0, "/svc/a", 1)
 }
 
+/// Answers are kept by instance and path, a later one replaces an earlier one, and all can be
+/// forgotten.
 #[test]
 fn keeps_by_use(rt: HostRuntime) -> Result<(), Fail> {
     let mut cache = Cache::new(rt.alloc())?;
@@ -55,6 +60,7 @@ fn keeps_by_use(rt: HostRuntime) -> Result<(), Fail> {
     Ok(())
 }
 
+/// A full cache is emptied by one more use, and not by one that it has.
 #[test]
 fn begins_anew_when_full(rt: HostRuntime) -> Result<(), Fail> {
     let mut cache = Cache::new(rt.alloc())?;

@@ -1,5 +1,6 @@
 -- Promised.
--- What the words behind the program's name ask for.
+-- What the words that follow the program's name ask for. An `App` is a parser of words, and a `Rule`
+-- says one option.
 use Rattle.std.specs.Prelude.{ℕ, Bool, true, false, List, [], ◌∷◌, codes}
 use Rattle.std.specs.Prelude.{Option, Some, None, Result, Ok, Err, if◌then◌else◌}
 use Rattle.std.specs.Str.{bytes_eq}
@@ -21,87 +22,95 @@ use Rattle.cm_call.specs.declared.call.Wanted.TheVariants.{Answers, Environments
 use Rattle.cm_call.specs.declared.call.WordsFault.{WordsFault}
 use Rattle.cm_call.specs.declared.call.WordsFault.TheVariants.{Usage}
 
+-- what words ask for, or that they ask for nothing (or memory ran out)
 abbrev pub WordsResult : Type 0 → Type 0
 WordsResult A = Result A WordsFault
 
--- `--journal`, which has no value
+-- the option `--journal`, which has no value
 abbrev pub journal_rule : Rule
 journal_rule = record (new_rule (codes "journal")) { long = Some (codes "journal"); action = Some SetTrue }
 
--- `--repo DIR`
+-- the option `--repo DIR`
 abbrev pub repo_rule : Rule
 repo_rule = record (new_rule (codes "repo")) { long = Some (codes "repo"); action = Some Set }
 
--- the parser of the words behind the name of a command
+-- a parser without options, for the words that follow this command
 abbrev pub app_named : List ℕ → App
 app_named name = on_top (λ s. record s { no_binary_name = true }) (new_app name)
 
+-- the parser for `run`: `[--journal] [--repo DIR]`
 abbrev pub run_app : App
 run_app = with_rule (with_rule (app_named (codes "run")) journal_rule) repo_rule
 
--- `--repo DIR` alone; the name is told nowhere
+-- the parser for `environments` and `storage`: `[--repo DIR]`; its own name is never printed
 abbrev pub report_app : App
 report_app = with_rule (app_named (codes "report")) repo_rule
 
+-- the parser for `check`, which takes no further words
 abbrev pub check_app : App
 check_app = app_named (codes "check")
 
+-- the parser for `audit`, which takes no further words
 abbrev pub audit_app : App
 audit_app = app_named (codes "audit")
 
--- a whole number from low to high, which has to be there
+-- a whole number from low to high, given by its place, which has to be there
 abbrev pub number_rule : List ℕ → ℕ → ℕ → Rule
 number_rule name low high =
     record (new_rule name) { required = true; action = Some Set; parser = Some (value.Unsigned low high) }
 
--- the greatest seed
+-- the greatest seed of a workload
 abbrev pub last_seed : ℕ
 last_seed = 2147483647
 
--- the most instances
+-- the most instances of a workload
 abbrev pub most_instances : ℕ
 most_instances = 10000
 
--- `G N`
+-- the parser for `generate`: `SEED SIZE`
 abbrev pub generate_app : App
 generate_app =
     with_rule (with_rule (app_named (codes "generate")) (number_rule (codes "seed") 0 last_seed))
     (number_rule (codes "size") 1 most_instances)
 
--- a text that has to be there, by its place or behind `--` and its name
+-- a text, given by its place, which has to be there
 abbrev pub text_rule : List ℕ → Rule
 text_rule name = record (new_rule name) { required = true; action = Some Set }
 
+-- a text, given by `--` and this name, which has to be there
 abbrev pub named_rule : List ℕ → Rule
 named_rule name = record (text_rule name) { long = Some name }
 
--- `--`, a name, and a whole number from low to high
+-- a whole number from low to high, given by `--` and this name
 abbrev pub count_rule : List ℕ → ℕ → ℕ → Rule
 count_rule name low high =
     record (new_rule name) { long = Some name; action = Some Set; parser = Some (value.Unsigned low high) }
 
--- the most sessions, and the most workers
+-- the most sessions that `serve` can be asked for
 abbrev pub most_sessions : ℕ
 most_sessions = 4096
 
+-- the most workers that `serve` can be asked for
 abbrev pub most_workers : ℕ
 most_workers = 16
 
--- `SOCKET --root URL`: where links come, and the realm's root
+-- the first part of the parser for `serve`: `SOCKET --root URL`, where links come and the realm's root
 abbrev pub place_app : App
 place_app =
     with_rule (with_rule (app_named (codes "serve")) (text_rule (codes "socket"))) (named_rule (codes "root"))
 
--- `--repo DIR` besides, where its manifests are
+-- the first two parts of the parser for `serve`: `SOCKET --root URL --repo DIR`, with the folder of
+-- manifests
 abbrev pub needed_app : App
 needed_app = with_rule place_app (named_rule (codes "repo"))
 
--- `[--sessions N] [--workers W]` besides
+-- the parser for `serve`: `SOCKET --root URL --repo DIR [--sessions N] [--workers W]`
 abbrev pub serve_app : App
 serve_app =
     with_rule (with_rule needed_app (count_rule (codes "sessions") 1 most_sessions))
     (count_rule (codes "workers") 1 most_workers)
 
+-- whether a parser found no fault
 abbrev pub is_free : Kinds → Bool
 is_free [] = true
 is_free (kind ∷ kinds) = false
@@ -110,10 +119,12 @@ is_free (kind ∷ kinds) = false
 abbrev pub rows_read : App → List Text → WordsResult (List Row)
 rows_read app words = if is_free (fault_of app words) then Ok (matches_of app words) else Err Usage
 
+-- whether an option without a value was given
 abbrev pub is_yes : Option Text → Bool
 is_yes None = false
 is_yes (Some text) = bytes_eq text (codes "true")
 
+-- what the parsed words of `run` ask for
 abbrev pub options_in : List Row → RunOptions
 options_in rows =
     record {
@@ -121,23 +132,28 @@ options_in rows =
       repository = first_of (codes "repo") rows;
     }
 
--- a report on the tree at the end
+-- what the parsed words of a report ask for
 abbrev pub report_in : Wanted → List Row → RunOptions
 report_in wanted rows = record { wanted = wanted; repository = first_of (codes "repo") rows }
 
+-- what is asked for, made of the parsed words, or the parser's fault
 abbrev pub on_rows : {X : Type 0} → (List Row → X) → WordsResult (List Row) → WordsResult X
 on_rows f (Ok rows) = Ok (f rows)
 on_rows f (Err e) = Err e
 
+-- what the words after `run` ask for
 abbrev pub run_words : List Text → WordsResult Call
 run_words words = on_rows (λ rows. Run (options_in rows)) (rows_read run_app words)
 
+-- what the words after `environments` or `storage` ask for
 abbrev pub report_words : Wanted → List Text → WordsResult Call
 report_words wanted words = on_rows (λ rows. Run (report_in wanted rows)) (rows_read report_app words)
 
+-- what the words after `check` ask for
 abbrev pub check_words : List Text → WordsResult Call
 check_words words = on_rows (λ rows. Check) (rows_read check_app words)
 
+-- what the words after `audit` ask for
 abbrev pub audit_words : List Text → WordsResult Call
 audit_words words = on_rows (λ rows. Audit) (rows_read audit_app words)
 
@@ -148,30 +164,31 @@ number_in low high (Some text) =
     if accepts false (value.Unsigned low high) text then Ok (digits_value 10 (without_leading_plus text))
     else Err Usage
 
--- the workload that rows of a parse ask for
+-- what the parsed words of `generate` ask for
 unfoldable pub workload_in : List Row → WordsResult Call
 workload_in rows = do
   seed ← number_in 0 last_seed (first_of (codes "seed") rows)
   size ← number_in 1 most_instances (first_of (codes "size") rows)
   Ok (Generate (record { seed = seed; size = size }))
 
--- what the words behind `generate` ask for
+-- what the words after `generate` ask for
 unfoldable pub generate_words : List Text → WordsResult Call
 generate_words words = do
   rows ← rows_read generate_app words
   workload_in rows
 
--- the text that was given
+-- the text that was given, which has to be there
 abbrev pub text_in : Option Text → WordsResult Text
 text_in None = Err Usage
 text_in (Some text) = Ok text
 
--- the number that was given, from low to high, or the other one where none was
+-- the number that was given, from low to high, or the other one where none was given
 abbrev pub number_or : ℕ → ℕ → ℕ → Option Text → WordsResult ℕ
 number_or other low high None = Ok other
 number_or other low high (Some text) = number_in low high (Some text)
 
--- what rows of a parse ask to serve
+-- what the parsed words of `serve` ask for; there are one session and four workers unless they say
+-- else
 unfoldable pub serving_in : List Row → WordsResult Call
 serving_in rows = do
   socket ← text_in (first_of (codes "socket") rows)
@@ -187,12 +204,13 @@ serving_in rows = do
     workers = workers;
   }))
 
+-- what the words after `serve` ask for
 unfoldable pub serve_words : List Text → WordsResult Call
 serve_words words = do
   rows ← rows_read serve_app words
   serving_in rows
 
--- what words ask for: the first is the command, and the others are for its parser
+-- what all words ask for: the first is the command, and the others are for its parser
 unfoldable pub words_of : List Text → WordsResult Call
 words_of [] = Err Usage
 words_of (word ∷ words) =

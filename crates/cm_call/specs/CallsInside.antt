@@ -1,5 +1,5 @@
 -- Inside.
--- What the words behind the program's name ask for.
+-- What the functions that read the program's words promise.
 use Rattle.std.specs.Prelude.{◌≡◌, ◌<◌, ◌≤◌, ◌^◌, List}
 use Rattle.std.specs.Prelude.{Result, Ok, Err}
 use Rattle.clap.specs.Words.{found_of}
@@ -20,26 +20,26 @@ GivesCall (Ok x) read = read ≡ Ok x
 GivesCall (Err Memory) read = Unit {0}
 GivesCall (Err Usage) read = read ≡ Err Usage
 
--- what a parse gives is that, unless memory ran out
+-- what the parser returned is what the definition parses, unless memory ran out
 abbrev pub Parses : App → List Text → Result ArgMatches WordsFault → Type 0
 Parses app words (Ok matches) = rows_read app words ≡ Ok (rows_of (found_of matches))
 Parses app words (Err Memory) = Unit {0}
 Parses app words (Err Usage) = rows_read app words ≡ Err Usage
 
--- what words can ask to serve
+-- numbers of sessions and workers that words can ask for
 pub record IsServing (o : ServeOptions) : Type 0 where
   pub some_sessions : 0 < o.sessions
   pub sessions : o.sessions ≤ most_sessions
   pub some_workers : 0 < o.workers
   pub workers : o.workers ≤ most_workers
 
--- a workload that words can ask for
+-- a seed and a size that words can ask for
 pub record IsWorkload (w : Workload) : Type 0 where
   pub seed : w.seed < 2 ^ 31
   pub some : 0 < w.size
   pub limit : w.size ≤ 10000
 
--- what is asked for can be done
+-- what is asked for is within all limits
 abbrev pub IsPossible : Call → Type 0
 IsPossible (Run options) = Unit {0}
 IsPossible Check = Unit {0}

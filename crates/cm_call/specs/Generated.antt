@@ -26,49 +26,49 @@ use Rattle.cm_command.specs.declared.script.Block.{Block}
 use Rattle.cm_command.specs.declared.script.Line.{Line}
 use Rattle.cm_command.specs.declared.script.Script.{Script}
 
--- bytes of UTF-8
+-- a text, as its bytes of UTF-8
 abbrev pub WordBytes : Type 0
 WordBytes = List ℕ
 
 -- ---- instance k of n, counted from 0, which is the root
 
--- the number of its parent, where it isn't the root
+-- the number of instance k's parent, where k isn't the root
 abbrev pub parent_of : ℕ → ℕ
 parent_of k = (k - 1) / 4
 
--- the numbers of its children
+-- the numbers of instance k's children, of n instances in all
 abbrev pub kids_of : ℕ → ℕ → List ℕ
 kids_of n k = filter (λ c. nat_lt c n) (range_with_len (k * 4 + 1) 4)
 
--- its name
+-- the name of instance k, from which its moniker is made
 abbrev pub name_of : ℕ → WordBytes
 name_of k = codes "i" ++ decimal k
 
--- its URL
+-- the URL of instance k, under which its manifest is found
 abbrev pub url_of : ℕ → WordBytes
 url_of k = codes "fuchsia-pkg://gen/p#meta/" ++ (decimal k ++ codes ".cm")
 
--- the protocol that it declares, and that its children use
+-- the name of the protocol that instance k provides, and that its children use
 abbrev pub protocol_of : ℕ → WordBytes
 protocol_of k = codes "p." ++ decimal k
 
--- the names from the root to it, of which there are no more than so many
+-- the names from the root to instance k, at most so many
 abbrev pub names_to : ℕ → ℕ → List ChildName
 names_to zero k = []
 names_to (suc most) zero = []
 names_to (suc most) (suc k) = names_to most (parent_of (suc k)) ++ static_name (name_of (suc k)) ∷ []
 
--- where it stands
+-- the moniker of instance k: the names from the root down to it
 abbrev pub moniker_of : ℕ → Moniker
 moniker_of k = record { parts = names_to k k }
 
 -- ---- its manifest
 
--- what its parent declares of it
+-- what its parent declares of instance c
 abbrev pub child_row : ℕ → Child
 child_row c = record { name = name_of c; url = url_of c; eager = false; environment = None }
 
--- its protocol, for a child
+-- the protocol of instance k, as it is given to a child
 abbrev pub give_row : ℕ → Give
 give_row k = record {
   kind = kind.Protocol;
@@ -81,11 +81,11 @@ give_row k = record {
   availability = availability.Required;
 }
 
--- its protocol, offered to this child
+-- the offer of instance k's protocol to child c
 abbrev pub offer_row : ℕ → ℕ → Offer
 offer_row k c = record { to = name_of c; give = give_row k }
 
--- its one capability, which is its protocol
+-- the one capability of instance k, which is its protocol
 abbrev pub capability_row : ℕ → Capability
 capability_row k = record {
   kind = kind.Protocol;
@@ -107,11 +107,11 @@ use_row parent = record {
   availability = availability.Required;
 }
 
--- what it uses, which is nothing at the root
+-- what instance k uses: its parent's protocol; nothing at the root
 abbrev pub use_rows : ℕ → List Usage
 use_rows k = if k == 0 then [] else use_row (parent_of k) ∷ []
 
--- the whole, of n instances
+-- the declaration of instance k, of n in all
 abbrev pub decl_of : ℕ → ℕ → Decl
 decl_of n k = record {
   runner = Some (codes "gen");
@@ -128,40 +128,41 @@ decl_of n k = record {
   storage_offers = [];
 }
 
--- it was read from no line, so that none is told of it
+-- the manifest of instance k as a block of the script; it has the line 0, since it was read from none
 abbrev pub block_of : ℕ → ℕ → Block
 block_of n k = record { line = 0; url = url_of k; bytes = decl_text (decl_of n k) }
 
 -- ---- the lines
 
--- the number behind x in the sequence of draws
+-- the number that follows x in the sequence of draws
 abbrev pub next_of : ℕ → ℕ
 next_of x = (x * 1103515245 + 12345) % 2 ^ 31
 
--- so many instances of n, drawn one after the other from x on
+-- so many instances of n, drawn one after another from x on
 abbrev pub drawn : ℕ → ℕ → ℕ → List ℕ
 drawn n x zero = []
 drawn n x (suc more) = (next_of x / 65536) % n ∷ drawn n (next_of x) more
 
--- these commands, of which the first has the number j, go to four lanes in turns
+-- these commands as lines, which go to four lanes in turn; the first has the number j
 abbrev pub in_turns : ℕ → List Command → List Line
 in_turns j [] = []
 in_turns j (c ∷ cs) = record { line = 0; lane = j % 4; command = c } ∷ in_turns (j + 1) cs
 
--- what stands there is started
+-- the command that starts this instance
 abbrev pub start_at : Moniker → Command
 start_at m = command.Start (target.Named m)
 
--- an instance is started
+-- the command that starts instance k
 abbrev pub start_of : ℕ → Command
 start_of k = start_at (moniker_of k)
 
--- the root is shown, and every other instance opens what it uses
+-- the command that asks something of instance k: the root is shown, every other opens what it uses
 abbrev pub ask_of : ℕ → Command
 ask_of k = if k == 0 then command.Show (target.Named (moniker_of k))
     else command.OpenUse (target.Named (moniker_of k)) (service_path (protocol_of (parent_of k)))
 
--- each of n instances is started, and then as many are asked, by draws from g on
+-- the workload's script: each of n instances is started, and then as many are asked, by draws from g
+-- on
 abbrev pub script_of : ℕ → ℕ → Script
 script_of g n = record {
   manifests = map (block_of n) (range_with_len 0 n);

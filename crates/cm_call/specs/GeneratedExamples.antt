@@ -8,7 +8,7 @@ use Rattle.cm_call.specs.Generated.{drawn, names_to, kids_of, url_of}
 abbrev pub DrawsExample : Type 0
 DrawsExample = drawn 5 1 5 ≡ 3 ∷ 3 ∷ 3 ∷ 0 ∷ 1 ∷ []
 
--- where instance 22 stands
+-- the moniker of instance 22
 abbrev pub MonikerExample : Type 0
 MonikerExample = text_of_parts (names_to 22 22) ≡ codes "i1/i5/i22"
 
@@ -16,6 +16,6 @@ MonikerExample = text_of_parts (names_to 22 22) ≡ codes "i1/i5/i22"
 abbrev pub KidsExample : Type 0
 KidsExample = kids_of 8 1 ≡ 5 ∷ 6 ∷ 7 ∷ []
 
--- where the manifest of instance 4095 is
+-- the URL of instance 4095
 abbrev pub UrlExample : Type 0
 UrlExample = url_of 4095 ≡ codes "fuchsia-pkg://gen/p#meta/4095.cm"

@@ -1,4 +1,4 @@
-//! What the words behind the program's name ask for.
+//! What the words after the program's name ask for.
 
 ghost use Rattle.std.specs.Prelude.{◌≡◌, ◌<◌, ◌≤◌, option_map, IfOk, true, false, Ok, Some};
 ghost use Rattle.clap.specs.Words.{app_of, first_of, found_of, rule_of};
@@ -16,7 +16,7 @@ use std::alloc::Global;
 /// What is to be printed of the run of a script.
 #[derive(Clone, Copy)]
 pub enum Wanted {
-    /// The answer to each line, and behind them the journal where it is wanted.
+    /// The answer to each line, and after them the journal where it is wanted.
     Answers {
         /// Whether it is.
         journal: bool,
@@ -98,12 +98,13 @@ impl From<Memory> for WordsFault {
 
     ghost from_gives = { λ _ e. e ≡ OutOfMemory };
 
+    /// For `?` after a call that lacked memory.
     fn from(_: Memory) -> WordsFault {
         WordsFault::Memory
     }
 }
 
-/// The parser of the words behind `run`.
+/// The parser of the words after `run`.
 fn run_command<'a>(alloc: Global) -> Result<Command<'a>, Memory>
     ensures { IfOk result (λ c. app_of c ≡ spec.run_app) }
 {
@@ -117,7 +118,7 @@ fn run_command<'a>(alloc: Global) -> Result<Command<'a>, Memory>
     Ok(command.arg(repo)?)
 }
 
-/// The parser of the words behind the name of a report.
+/// The parser of the words after the name of a report.
 fn report_command<'a>(alloc: Global) -> Result<Command<'a>, Memory>
     ensures { IfOk result (λ c. app_of c ≡ spec.report_app) }
 {
@@ -126,14 +127,14 @@ fn report_command<'a>(alloc: Global) -> Result<Command<'a>, Memory>
     Ok(command.arg(repo)?)
 }
 
-/// The parser of the words behind `check`.
+/// The parser of the words after `check`.
 fn check_command<'a>(alloc: Global) -> Command<'a>
     ensures { app_of result ≡ spec.check_app }
 {
     Command::new(alloc, "check").no_binary_name(true)
 }
 
-/// The parser of the words behind `audit`.
+/// The parser of the words after `audit`.
 fn audit_command<'a>(alloc: Global) -> Command<'a>
     ensures { app_of result ≡ spec.audit_app }
 {
@@ -151,7 +152,7 @@ fn number_arg<'a>(alloc: Global, name: &'a str, low: u64, high: u64) -> Arg<'a>
         .value_parser(ValueParser::unsigned(low, high))
 }
 
-/// The parser of the words behind `generate`.
+/// The parser of the words after `generate`.
 fn generate_command<'a>(alloc: Global) -> Result<Command<'a>, Memory>
     ensures { IfOk result (λ c. app_of c ≡ spec.generate_app) }
 {
@@ -170,7 +171,7 @@ fn text_arg<'a>(alloc: Global, name: &'a str) -> Arg<'a>
     Arg::new(alloc, name).required(true).action(ArgAction::Set)
 }
 
-/// An argument that has to be there, behind its name.
+/// An argument that has to be there, after its name.
 fn named_arg<'a>(alloc: Global, name: &'a str) -> Arg<'a>
     ensures rule { rule_of result ≡ spec.named_rule name.entry.now }
     ensures local { result.global ≡ false }
@@ -178,7 +179,7 @@ fn named_arg<'a>(alloc: Global, name: &'a str) -> Arg<'a>
     text_arg(alloc, name).long(name)
 }
 
-/// A whole number from 1 to high behind its name, which may be left out.
+/// A whole number from 1 to high after its name, which may be left out.
 fn count_arg<'a>(alloc: Global, name: &'a str, high: u64) -> Arg<'a>
     ensures rule { rule_of result ≡ spec.count_rule name.entry.now 1 high }
     ensures local { result.global ≡ false }
@@ -200,7 +201,7 @@ fn place_command<'a>(alloc: Global) -> Result<Command<'a>, Memory>
     Ok(command.arg(named_arg(alloc, "root"))?)
 }
 
-/// The parser of all that has to be there behind `serve`.
+/// The parser of all that has to be there after `serve`.
 fn needed_command<'a>(alloc: Global) -> Result<Command<'a>, Memory>
     ensures { IfOk result (λ c. app_of c ≡ spec.needed_app) }
 {
@@ -208,7 +209,7 @@ fn needed_command<'a>(alloc: Global) -> Result<Command<'a>, Memory>
     Ok(command.arg(named_arg(alloc, "repo"))?)
 }
 
-/// The parser of the words behind `serve`.
+/// The parser of the words after `serve`.
 fn serve_command<'a>(alloc: Global) -> Result<Command<'a>, Memory>
     ensures { IfOk result (λ c. app_of c ≡ spec.serve_app) }
 {
@@ -231,12 +232,14 @@ fn parsed<'a>(command: Command<'a>, words: &'a [Text]) -> Result<ArgMatches<'a>,
     }
 }
 
+/// The value of this option or word, if it was given.
 fn text_at<'a>(matches: &ArgMatches<'a>, id: &str) -> Option<&'a str>
     ensures { option_map (λ s. s.now) result ≡ first_of id.now (rows_of (found_of matches.now)) }
 {
     matches.get_str(id)
 }
 
+/// Whether this option without a value was given.
 fn has_flag(matches: &ArgMatches<'_>, id: &str) -> bool
     ensures { result ≡ spec.is_yes (first_of id.now (rows_of (found_of matches.now))) }
 {
@@ -246,6 +249,7 @@ fn has_flag(matches: &ArgMatches<'_>, id: &str) -> bool
     }
 }
 
+/// A copy of the value of this option, if it was given.
 fn copy_at(alloc: Global, matches: &ArgMatches<'_>, id: &str) -> Result<Option<Text>, WordsFault>
     ensures { GivesCall result (Ok (first_of id.now (rows_of (found_of matches.now)))) }
 {
@@ -282,6 +286,7 @@ fn number_in(text: &str, low: u64, high: u64) -> Result<u64, WordsFault>
     Ok(number)
 }
 
+/// What the words of `run` ask for. The fault is `Memory`, where memory runs out.
 fn options_of(alloc: Global, matches: &ArgMatches<'_>) -> Result<RunOptions, WordsFault>
     ensures { GivesCall result (Ok (spec.options_in (rows_of (found_of matches.now)))) }
 {
@@ -293,7 +298,7 @@ fn options_of(alloc: Global, matches: &ArgMatches<'_>) -> Result<RunOptions, Wor
     })
 }
 
-/// What the words behind `run` ask for.
+/// What the words after `run` ask for.
 fn read_run(alloc: Global, words: &[Text]) -> Result<Call, WordsFault>
     ensures gives { GivesCall result (spec.run_words words.now) }
     ensures possible { IfOk result IsPossible }
@@ -302,7 +307,7 @@ fn read_run(alloc: Global, words: &[Text]) -> Result<Call, WordsFault>
     Ok(Call::Run(options_of(alloc, &matches)?))
 }
 
-/// What the words behind the name of a report ask for, which is that report.
+/// What the words after the name of a report ask for, which is that report.
 fn read_report(alloc: Global, wanted: Wanted, words: &[Text]) -> Result<Call, WordsFault>
     ensures gives { GivesCall result (spec.report_words wanted words.now) }
     ensures possible { IfOk result IsPossible }
@@ -312,7 +317,7 @@ fn read_report(alloc: Global, wanted: Wanted, words: &[Text]) -> Result<Call, Wo
     Ok(Call::Run(RunOptions { wanted, repository }))
 }
 
-/// What the words behind `check` ask for.
+/// What the words after `check` ask for.
 fn read_check(alloc: Global, words: &[Text]) -> Result<Call, WordsFault>
     ensures gives { GivesCall result (spec.check_words words.now) }
     ensures possible { IfOk result IsPossible }
@@ -321,7 +326,7 @@ fn read_check(alloc: Global, words: &[Text]) -> Result<Call, WordsFault>
     Ok(Call::Check)
 }
 
-/// What the words behind `audit` ask for.
+/// What the words after `audit` ask for.
 fn read_audit(alloc: Global, words: &[Text]) -> Result<Call, WordsFault>
     ensures gives { GivesCall result (spec.audit_words words.now) }
     ensures possible { IfOk result IsPossible }
@@ -344,7 +349,7 @@ fn workload_of(matches: &ArgMatches<'_>) -> Result<Call, WordsFault>
     }))
 }
 
-/// What the words behind `generate` ask for.
+/// What the words after `generate` ask for.
 #[tactic(auto, unfolding(crate::specs::Calls::generate_words))]
 fn read_generate(alloc: Global, words: &[Text]) -> Result<Call, WordsFault>
     ensures gives { GivesCall result (spec.generate_words words.now) }
@@ -397,7 +402,7 @@ fn serving_of(alloc: Global, matches: &ArgMatches<'_>) -> Result<Call, WordsFaul
     }))
 }
 
-/// What the words behind `serve` ask for.
+/// What the words after `serve` ask for.
 #[tactic(auto, unfolding(crate::specs::Calls::serve_words))]
 fn read_serve(alloc: Global, words: &[Text]) -> Result<Call, WordsFault>
     ensures gives { GivesCall result (spec.serve_words words.now) }
@@ -407,7 +412,7 @@ fn read_serve(alloc: Global, words: &[Text]) -> Result<Call, WordsFault>
     serving_of(alloc, &matches)
 }
 
-/// What the words behind the program's name ask for.
+/// What the words after the program's name ask for.
 ///
 /// The first word picks the command, and the further words go to that command's parser, which is
 /// one of the crate `clap`.

@@ -24,7 +24,7 @@ fn read_name(alloc: Global, text: &Text) -> Result<Name, Memory>
     }
 }
 
-/// The name of an instance.
+/// The name of an instance of the workload, by its number. `Err` where memory runs out.
 pub fn name_of(alloc: Global, instance: usize) -> Result<Name, Memory>
     ensures { IfOk result (λ name. name ≡ spec.name_of instance) }
 {
@@ -33,7 +33,7 @@ pub fn name_of(alloc: Global, instance: usize) -> Result<Name, Memory>
     read_name(alloc, &text)
 }
 
-/// The URL of an instance.
+/// The URL of an instance of the workload, by its number. `Err` where memory runs out.
 pub fn url_of(alloc: Global, instance: usize) -> Result<Text, Memory>
     ensures { IfOk result (λ url. url ≡ spec.url_of instance) }
 {
@@ -72,7 +72,7 @@ fn kids_of(alloc: Global, size: usize, instance: usize) -> Result<List<usize>, M
     Ok(kids)
 }
 
-/// Puts an instance behind these, if it is one of so many.
+/// Puts an instance after these, if it is one of so many.
 fn push_below(kids: &mut List<usize>, size: usize, kid: usize) -> Result<(), Memory>
     ensures { OnOk result (kids.new ≡ kids.old ++ (if nat_lt kid size then kid ∷ [] else [])) }
 {

@@ -1,4 +1,4 @@
-//! What the words behind the program's name ask for, and the script that a workload is.
+//! What the words after the program's name ask for, and the script that a workload is.
 //!
 //! [`read_words`] reads the words. [`generated`] makes the script of a workload that they may ask for: its
 //! manifests, and its lines.

@@ -35,7 +35,7 @@ fn moniker_behind(alloc: Global, monikers: &[Moniker], instance: usize) -> Resul
     moniker_below(alloc, &monikers[(instance - 1) / 4], instance)
 }
 
-/// Where so many instances stand.
+/// The monikers of the first so many instances. `Err` where memory runs out.
 #[tactic(auto, using(crate::proofs::texts::GeneratorLemmas::standing))]
 fn monikers_of(alloc: Global, size: usize) -> Result<List<Moniker>, Memory>
     ensures known { IfOk result (λ monikers. monikers ≡ map spec.moniker_of (range_with_len 0 size)) }
@@ -49,7 +49,7 @@ fn monikers_of(alloc: Global, size: usize) -> Result<List<Moniker>, Memory>
     Ok(monikers)
 }
 
-/// The number behind the last one in the sequence of draws.
+/// The number after the last one in the sequence of draws.
 fn next_of(last: u64) -> u64
     requires { last < 2 ^ 31 }
     ensures next { result ≡ spec.next_of last }
@@ -77,7 +77,7 @@ fn draws_of(alloc: Global, seed: u64, size: usize) -> Result<List<usize>, Memory
     Ok(draws)
 }
 
-/// Each instance is started.
+/// For each instance the command that starts it. `Err` where memory runs out.
 fn starts_of(alloc: Global, monikers: &[Moniker]) -> Result<List<Command>, Memory>
     ensures { IfOk result (λ commands. commands ≡ map spec.start_at monikers.now) }
 {
@@ -102,7 +102,7 @@ fn ask_of(alloc: Global, monikers: &[Moniker], instance: usize) -> Result<Comman
     Ok(Command::OpenUse { target, path })
 }
 
-/// These instances are asked.
+/// For each draw the command that asks its instance: the root is shown, every other opens what it uses.
 fn asks_of(alloc: Global, monikers: &[Moniker], draws: &[usize]) -> Result<List<Command>, Memory>
     requires known { monikers.now ≡ map spec.moniker_of (range_with_len 0 (length monikers.now)) }
     requires within { All (λ instance. instance < length monikers.now) draws.now }
@@ -161,7 +161,7 @@ fn asking(alloc: Global, monikers: &[Moniker], seed: u64) -> Result<List<Line>, 
     in_turns(alloc, asks)
 }
 
-/// Two phases of lines.
+/// The two phases of the workload: the starts, and then the asks. `Err` where memory runs out.
 fn phases_of(
     alloc: Global,
     first: List<Line>,

@@ -1,5 +1,5 @@
 -- Promised.
--- How the faults of scripts are written.
+-- How the faults of scripts are printed.
 use Rattle.std.specs.Prelude.{ℕ, List, ◌++◌, codes, decimal}
 use Rattle.cm_command.specs.declared.fault.ScriptNumber.{ScriptNumber}
 use Rattle.cm_command.specs.declared.fault.ScriptNumber.TheVariants.{BadCommand, BadLane, NoRoot}
@@ -8,7 +8,7 @@ use Rattle.cm_command.specs.declared.fault.ScriptNumber.TheVariants.{LineTooLong
 use Rattle.cm_command.specs.declared.fault.ScriptFault.{ScriptFault}
 use Rattle.cm_command.specs.declared.fault.ScriptFault.TheVariants.{Bad, Memory}
 
--- the number that is printed
+-- the number of a script's fault
 abbrev pub number_of : ScriptNumber → ℕ
 number_of BadCommand = 70
 number_of BadLane = 71
@@ -18,7 +18,7 @@ number_of TooManyLanes = 74
 number_of LineTooLong = 75
 number_of TooLarge = 76
 
--- the word that is printed
+-- the word of a script's fault
 abbrev pub fault_word : ScriptNumber → List ℕ
 fault_word BadCommand = codes "bad-command"
 fault_word BadLane = codes "bad-lane"
@@ -28,12 +28,12 @@ fault_word TooManyLanes = codes "too-many-lanes"
 fault_word LineTooLong = codes "line-too-long"
 fault_word TooLarge = codes "too-large"
 
--- the position, which is written at a bad command alone
+-- the position in the line, which is printed for a bad command alone
 abbrev pub position_text : ScriptNumber → ℕ → List ℕ
 position_text BadCommand at = codes " at " ++ decimal at
 position_text _ at = codes ""
 
--- `line L: NUMBER WORD`, and ` at POSITION`
+-- a script's fault as it is printed: `line L: NUMBER WORD`, and ` at POSITION` for a bad command
 abbrev pub fault_text : ScriptFault → List ℕ
 fault_text (Bad line number at) =
     codes "line " ++ decimal line ++ codes ": " ++ decimal (number_of number) ++ codes " "

@@ -1,5 +1,5 @@
 -- Promised.
--- Which line is which command.
+-- The grammar of commands: which line asks for which command.
 use Rattle.std.specs.Prelude.{◌≡◌, ℕ, ◌+◌, ◌<◌, ◌≤◌, ◌^◌, List, [], ◌∷◌, ◌++◌, codes, Some, None, IsTrue}
 use Rattle.cm_names.specs.declared.availability.Availability.TheVariants as availability
 use Rattle.cm_names.specs.declared.dependency.Dependency.TheVariants as dependency
@@ -21,11 +21,11 @@ use Rattle.cm_command.specs.declared.command.CommandFault.TheVariants.{BadComman
 use Rattle.cm_command.specs.Numbers.{IsNumberText}
 use Rattle.cm_command.specs.Words.{words_of, IsUrlText, IsTargetText, IsOriginText, IsRightsText}
 
--- bytes
+-- a line, or a part of one, as its bytes
 abbrev pub LineBytes : Type 0
 LineBytes = List ℕ
 
--- what a group gives that has no word behind its origin: all else is the default
+-- what a group of `create` gives without any addition: everything else is the default
 abbrev pub plain_give : Kind → LineBytes → Origin → Give
 plain_give kind name origin = record {
   kind = kind;
@@ -38,7 +38,8 @@ plain_give kind name origin = record {
   availability = availability.Required;
 }
 
--- the word, which is the n-th in the order of what a group may add, makes the first give the second
+-- this word is the n-th of the additions that a group may have, and changes what the group gives to
+-- the second
 pub data AddsWord : ℕ → LineBytes → Give → Give → Type 0 where
   target : {name : LineBytes} {g : Give} → IsName name
       → AddsWord 0 (codes "as=" ++ name) g (record g { target_name = name })
@@ -54,7 +55,7 @@ pub data AddsWord : ℕ → LineBytes → Give → Give → Type 0 where
       → AddsWord 4 (codes "same_as_target") g (record g { availability = availability.SameAsTarget })
 
 mutual
-  -- groups, each of which begins with the word `+`
+  -- these words are groups, each of which begins with `+`, and this is what they give
   pub data Groups : List LineBytes → List Give → Type 0 where
     no_group : Groups [] []
     group : {k : Kind} {name from : LineBytes} {origin : Origin} {ws : List LineBytes} {gs : List Give}
@@ -62,8 +63,8 @@ mutual
         → IsOriginText from origin → HasAdditions 0 (plain_give k name origin) ws gs
         → Groups (codes "+" ∷ kind_word k ∷ name ∷ from ∷ ws) gs
 
-  -- what stands behind a group's origin: additions from the n-th on, each once at most and in
-  -- their order, and further groups
+  -- what follows a group's origin: additions from the n-th on, each once at most and in their order,
+  -- and further groups
   pub data HasAdditions : ℕ → Give → List LineBytes → List Give → Type 0 where
     whole : {n : ℕ} {g : Give} {ws : List LineBytes} {gs : List Give} → Groups ws gs
         → HasAdditions n g ws (g ∷ gs)
@@ -71,7 +72,7 @@ mutual
         → AddsWord m w g h
         → HasAdditions (m + 1) h ws gs → HasAdditions n g (w ∷ ws) gs
 
--- the commands, each with its words
+-- the grammar of commands: the words of each, and what they ask for
 pub data CommandWords : List LineBytes → Command → Type 0 where
   resolve : {t : LineBytes} {a : Target} → IsTargetText t a
       → CommandWords (codes "resolve" ∷ t ∷ []) (command.Resolve a)
@@ -106,7 +107,7 @@ pub data CommandWords : List LineBytes → Command → Type 0 where
   events : {t from : LineBytes} {a : Target} {n : ℕ} → IsTargetText t a → IsNumberText from n → n < 2 ^ 64
       → CommandWords (codes "events" ∷ t ∷ from ∷ []) (command.Events a n)
 
--- the line asks for that command
+-- the line asks for this command
 abbrev pub CommandText : LineBytes → Command → Type 0
 CommandText t c = CommandWords (words_of t) c
 
@@ -114,12 +115,12 @@ CommandText t c = CommandWords (words_of t) c
 abbrev pub IsCommandText : LineBytes → Type 0
 IsCommandText t = (c : Command) × CommandText t c
 
--- the fault of a line that asks for none
+-- the line asks for no command, and its longest prefix that can be completed to one has n bytes
 abbrev pub IsCommandFault : LineBytes → CommandFault → Type 0
 IsCommandFault t (BadCommand n) = (IsCommandText t → ⊥) × IsLongestPrefix IsCommandText t n
 IsCommandFault t Memory = ⊥
 
--- the words behind `builtin`; a protocol's path is `/svc/` and its name
+-- the words that follow `builtin` in a script; a protocol's path is /svc/ and its name
 pub data BuiltinWords : List LineBytes → Builtin → Type 0 where
   protocol : {name : LineBytes} → IsName name
       → BuiltinWords (codes "protocol" ∷ name ∷ [])
@@ -129,15 +130,16 @@ pub data BuiltinWords : List LineBytes → Builtin → Type 0 where
       → BuiltinWords (codes "directory" ∷ name ∷ path ∷ w ∷ [])
       (record { kind = kind.Directory; name = name; path = path; rights = Some r })
 
--- what stands behind `builtin ` says that there is that capability
+-- the text that follows `builtin ` says that there is this capability
 abbrev pub BuiltinText : LineBytes → Builtin → Type 0
 BuiltinText t b = BuiltinWords (words_of t) b
 
--- what stands there says that there is some capability
+-- the text that follows `builtin ` says that there is some capability
 abbrev pub IsBuiltinText : LineBytes → Type 0
 IsBuiltinText t = (b : Builtin) × BuiltinText t b
 
--- what stands there says no such thing
+-- the text says no such thing, and its longest prefix that can be completed to one that does has n
+-- bytes
 abbrev pub IsBuiltinFault : LineBytes → CommandFault → Type 0
 IsBuiltinFault t (BadCommand n) = (IsBuiltinText t → ⊥) × IsLongestPrefix IsBuiltinText t n
 IsBuiltinFault t Memory = ⊥

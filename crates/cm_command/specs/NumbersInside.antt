@@ -1,5 +1,5 @@
 -- Inside.
--- How numbers are written.
+-- Numbers that fit in 64 bits.
 use Rattle.std.specs.Prelude.{ℕ, ◌-◌, ◌<◌, ◌^◌, List}
 use Rattle.cm_command.specs.Numbers.{IsNumberText}
 

@@ -1,5 +1,5 @@
 -- Inside.
--- Where a line stands behind some of its words: which word leads on, and to what.
+-- Where the reader of a line stands after some of its words: which word leads on, and to what state.
 use Rattle.std.specs.Prelude.{◌≡◌, ◌⊎◌, ℕ, ◌+◌, ◌-◌, ◌<◌, ◌≤◌, ◌^◌, List, [], ◌∷◌, ◌++◌, codes}
 use Rattle.std.specs.Prelude.{Some, None, Result, MatchResult, IsTrue}
 use Rattle.cm_names.specs.Name.{IsName}
@@ -31,7 +31,7 @@ use Rattle.cm_command.specs.Pieces.{PiecesLead, Wants}
 use Rattle.cm_command.specs.Words.{words_of, IsUrlText, IsTargetText, IsOriginText, IsRightsText}
 use Rattle.cm_command.specs.Grammar.{LineBytes, AddsWord, plain_give}
 
--- the word of a verb
+-- the first word of a command, by its kind
 abbrev pub verb_word : Verb → LineBytes
 verb_word verb.Resolve = codes "resolve"
 verb_word verb.Start = codes "start"
@@ -49,25 +49,25 @@ verb_word verb.Survey = codes "survey"
 verb_word verb.Exited = codes "exited"
 verb_word verb.Events = codes "events"
 
--- all verbs
+-- all kinds of commands
 abbrev pub verbs : List Verb
 verbs =
     verb.Resolve ∷ verb.Start ∷ verb.Stop ∷ verb.Shutdown ∷ verb.Create ∷ verb.Destroy ∷ verb.List ∷ verb.Open
     ∷ verb.OpenExposed ∷ verb.Route ∷ verb.Doctor ∷ verb.Show ∷ verb.Survey ∷ verb.Exited ∷ verb.Events ∷ []
 
--- the word of some verb
+-- the word begins some command
 abbrev pub IsVerbWord : LineBytes → Type 0
 IsVerbWord w = (v : Verb) × (w ≡ verb_word v)
 
--- the word of some kind
+-- the word is `protocol` or `directory`
 abbrev pub IsKindWord : LineBytes → Type 0
 IsKindWord w = (k : Kind) × (w ≡ kind_word k)
 
--- the place behind the words of a command
+-- the state after all words of a command
 abbrev pub asks : Command → LineState
 asks c = place.Whole (sentence.Command c)
 
--- the place behind a verb and its target
+-- the state after a command's first word and its target
 abbrev pub behind_target : Verb → Target → LineState
 behind_target verb.Resolve a = asks (command.Resolve a)
 behind_target verb.Start a = asks (command.Start a)
@@ -85,37 +85,37 @@ behind_target verb.Survey a = asks (command.Survey a)
 behind_target verb.Exited a = asks (command.Exited a)
 behind_target verb.Events a = place.Streaming a
 
--- a builtin protocol, whose path is that of its name
+-- a builtin protocol of this name, which has the path of its name
 abbrev pub protocol_of : LineBytes → Builtin
 protocol_of name = record { kind = kind.Protocol; name = name; path = service_path name; rights = None }
 
--- a builtin directory
+-- a builtin directory with this name, path and rights
 abbrev pub directory_of : LineBytes → LineBytes → RightSet → Builtin
 directory_of name path r = record { kind = kind.Directory; name = name; path = path; rights = Some r }
 
--- the place behind the words of a builtin capability
+-- the state after all words of a builtin
 abbrev pub provides : Builtin → LineState
 provides b = place.Whole (sentence.Builtin b)
 
--- the place behind the name of a builtin capability
+-- the state after the kind and the name of a builtin
 abbrev pub behind_builtin : Kind → LineBytes → LineState
 behind_builtin kind.Protocol name = provides (protocol_of name)
 behind_builtin kind.Directory name = place.BuiltinPath name
 
--- the place behind a child's URL
+-- the state of a `create` after the URL of the child
 abbrev pub create : Target → LineBytes → LineBytes → LineBytes → LineState
 create parent coll name url =
     place.Groups (record { parent = parent; coll = coll; name = name; url = url; gives = [] })
 
--- the place behind the origin of what a group gives: all else is the default
+-- the state of a `create` after the origin of a group; everything else of what it gives is the default
 abbrev pub give : Creation → Kind → LineBytes → Origin → LineState
 give c kind name origin = place.Additions c (plain_give kind name origin) 0
 
--- a creation with one give more
+-- a creation with one more offer to the child
 abbrev pub with_give : Creation → Give → Creation
 with_give c g = record c { gives = c.gives ++ g ∷ [] }
 
--- the word leads from the first place to the second
+-- the word leads from the first state to the second
 abbrev pub WordLeads : LineState → LineBytes → LineState → Type 0
 WordLeads place.Start w p = (v : Verb) × (w ≡ verb_word v) × (p ≡ place.Verb v)
 WordLeads (place.Verb v) w p = (a : Target) × IsTargetText w a × (p ≡ behind_target v a)
@@ -142,26 +142,27 @@ WordLeads (place.BuiltinRights name path) w p =
     (r : RightSet) × IsRightsText w r × (p ≡ provides (directory_of name path r))
 WordLeads (place.Whole s) w p = ⊥
 
--- the command of a creation that is whole
+-- the `create` of a creation whose words have all come
 abbrev pub created : Creation → ParsedLine
 created c = sentence.Command (command.Create c.parent c.coll c.name c.url c.gives)
 
--- the line may end at the place, and says that
+-- the line may end in this state, and says this
 abbrev pub EndsLine : LineState → ParsedLine → Type 0
 EndsLine (place.Groups c) s = s ≡ created c
 EndsLine (place.Additions c g n) s = s ≡ created (with_give c g)
 EndsLine (place.Whole t) s = s ≡ t
 EndsLine _ s = ⊥
 
--- the words of the text lead from the place to the end of that command
+-- the words of the text lead from this state to the end of that command
 abbrev pub LeadsTo : LineState → LineBytes → Command → Type 0
 LeadsTo p t c = PiecesLead WordLeads EndsLine p (words_of t) (sentence.Command c)
 
--- where the word leads from the place, or the fault of one that leads nowhere
+-- what a step of the reader returns: the state to which the word leads, or the fault of one that leads
+-- nowhere
 abbrev pub StepsFrom : LineState → LineBytes → Result LineState WordFault → Type 0
 StepsFrom p w r = MatchResult r (λ q. WordLeads p w q) (λ e. IsWordFault (Wants WordLeads p) w e)
 
--- the fault of a line of that length whose words lead to a place where it may not end
+-- the fault of a line of that length which ends where it may not: all of it can be completed
 abbrev pub IsUnended : LineState → ℕ → WordFault → Type 0
 IsUnended p len (word_fault.Bad n) = ((s : ParsedLine) → EndsLine p s → ⊥) × (n ≡ len + 1)
 IsUnended p len word_fault.Memory = Unit {0}
@@ -171,7 +172,8 @@ abbrev pub IsShort : WordFault → Type 0
 IsShort (word_fault.Bad n) = (1 ≤ n) × (n ≤ 2 ^ 32)
 IsShort word_fault.Memory = Unit {0}
 
--- the fault of a line, which tells the length of the longest prefix that can be completed
+-- the fault of a line, by that of its words: it tells the length of the longest prefix that can be
+-- completed
 abbrev pub line_fault : WordFault → CommandFault
 line_fault (word_fault.Bad n) = command_fault.BadCommand (n - 1)
 line_fault word_fault.Memory = command_fault.Memory

@@ -1,5 +1,5 @@
 -- Promised.
--- The lines of a script, the script that they are, and its first fault.
+-- Scripts: their lines, the script that lines are, and the first fault of lines that are none.
 use Rattle.std.specs.Prelude.{◌≡◌, ℕ, ◌+◌, ◌<◌, ◌≤◌, min, List, [], ◌∷◌, ◌++◌, length, codes, Bool, true}
 use Rattle.std.specs.Prelude.{false, ◌==◌, cond, IsTrue, IsFalse, Contains, Some, None}
 use Rattle.cm_names.specs.Prefixes.{IsLongestPrefix}
@@ -13,45 +13,45 @@ use Rattle.cm_command.specs.Numbers.{IsNumberText}
 use Rattle.cm_command.specs.Words.{IsUrlText}
 use Rattle.cm_command.specs.Grammar.{LineBytes, CommandText, IsCommandText, BuiltinText, IsBuiltinText}
 
--- a byte before the first line
+-- the lines with one more byte at the start of the first; where there is none, the byte is a line
 abbrev pub in_prefix : ℕ → List LineBytes → List LineBytes
 in_prefix byte [] = (byte ∷ []) ∷ []
 in_prefix byte (line ∷ lines) = (byte ∷ line) ∷ lines
 
--- the lines of bytes: each 0x0A ends a line, and what is left behind the last counts as a line
--- where it isn't empty
+-- the lines of bytes: each line feed ends one, and what follows the last counts as a line where it
+-- isn't empty
 abbrev pub lines_of : LineBytes → List LineBytes
 lines_of [] = []
 lines_of (byte ∷ bytes) = cond (byte == 10) ([] ∷ lines_of bytes) (in_prefix byte (lines_of bytes))
 
 -- ---- the limits
 
--- the most bytes of a line
+-- a line of a script or of a session may have so many bytes, without its line feed
 abbrev pub line_limit : ℕ
 line_limit = 65536
 
--- the most bytes of a script
+-- a script may have so many bytes
 abbrev pub script_limit : ℕ
 script_limit = 67108864
 
 -- ---- what a line says
 
--- an empty line, or one that begins with `#`
+-- whether a line says nothing: it is empty, or begins with `#`
 abbrev pub is_blank : LineBytes → Bool
 is_blank [] = true
 is_blank (byte ∷ bytes) = byte == 35
 
--- the line begins with the word
+-- the line begins with this word
 abbrev pub LineStartsWith : LineBytes → LineBytes → Type 0
 LineStartsWith t word = (rest : LineBytes) × (t ≡ word ++ rest)
 
--- the line begins with a number and a space
+-- the line begins with the number of a lane and a space, and this rest follows
 pub record IsLane (t : LineBytes) (lane : ℕ) (rest : LineBytes) : Type 0 where
   pub digits : LineBytes
   pub number : IsNumberText digits lane
   pub whole : t ≡ digits ++ (codes " " ++ rest)
 
--- the line is none of the others and doesn't begin with a number and a space
+-- the line is none of those without a lane, and doesn't begin with a number and a space
 pub record IsNoLane (t : LineBytes) : Type 0 where
   pub stands : IsFalse (is_blank t)
   pub no_manifest : LineStartsWith t (codes "manifest ") → ⊥
@@ -62,12 +62,13 @@ pub record IsNoLane (t : LineBytes) : Type 0 where
 
 -- ---- what a line does to the script that is read so far
 
--- an earlier builtin has the kind and the name
+-- one of these builtins has the same kind and name
 abbrev pub IsRepeated : List Builtin → Builtin → Type 0
 IsRepeated earlier b =
     (other : Builtin) × Contains earlier other × (other.kind ≡ b.kind) × (other.name ≡ b.name)
 
--- the n-th line, which makes the first draft the second
+-- the n-th line of a script is in order, and brings what was read so far, the first draft, to the
+-- second
 pub data TakesScriptLine (n : ℕ) : LineBytes → Draft → Draft → Type 0 where
   closes : {d : Draft} {b : Block} → d.block ≡ Some b
       → TakesScriptLine n (codes "%%") d (record d { manifests = d.manifests ++ b ∷ []; block = None })
@@ -96,7 +97,7 @@ pub data TakesScriptLine (n : ℕ) : LineBytes → Draft → Draft → Type 0 wh
         begun = true;
       })
 
--- the fault of a line of a script that is read so far, and its position
+-- the fault of a line after what was read so far, and its position in the line
 pub data LineFault (d : Draft) : LineBytes → ScriptNumber → ℕ → Type 0 where
   late_manifest : {t : LineBytes} → d.block ≡ None → IsTrue d.begun → LineStartsWith t (codes "manifest ")
       → LineFault d t fault.BadCommand 0
@@ -124,7 +125,7 @@ pub data LineFault (d : Draft) : LineBytes → ScriptNumber → ℕ → Type 0 w
       → d.root ≡ Some r → (IsCommandText rest → ⊥) → IsLongestPrefix IsCommandText rest at
       → LineFault d t fault.BadCommand (length way.digits + 1 + at)
 
--- the draft of no line
+-- what is read of a script before its first line
 abbrev pub no_draft : Draft
 no_draft = record {
   manifests = [];
@@ -136,23 +137,25 @@ no_draft = record {
   block = None;
 }
 
--- where the line ends that begins at a place of so many bytes; the last line may have no line feed
+-- where a line ends that begins at this place of so many bytes, with its line feed; the last line may
+-- have none
 abbrev pub end_of : ℕ → ℕ → LineBytes → ℕ
 end_of size place t = min size (place + length t + 1)
 
--- the line is within the limits
+-- the line, and the script up to its end, are within the limits
 pub record Fits (size place : ℕ) (t : LineBytes) : Type 0 where
   pub line : length t ≤ line_limit
   pub script : end_of size place t ≤ script_limit
 
--- the lines, of which the first is the n-th and begins at that place, make the first draft the second
+-- these lines, the first of which is the n-th and begins at that place, bring the first draft to the
+-- second
 pub data ReadsLines (size : ℕ) : ℕ → ℕ → Draft → List LineBytes → Draft → Type 0 where
   no_more : {place n : ℕ} {d : Draft} → ReadsLines size place n d [] d
   one_more : {place n : ℕ} {t : LineBytes} {ts : List LineBytes} {d e f : Draft} → Fits size place t
       → TakesScriptLine n t d e
       → ReadsLines size (end_of size place t) (n + 1) e ts f → ReadsLines size place n d (t ∷ ts) f
 
--- the first fault of the lines: its line's number, what it is, and its position
+-- the first fault of these lines: the number of its line, what it is, and its position in the line
 pub data Faults (size : ℕ) : ℕ → ℕ → Draft → List LineBytes → ℕ → ScriptNumber → ℕ → Type 0 where
   too_long : {place n : ℕ} {d : Draft} {t : LineBytes} {ts : List LineBytes} → line_limit < length t
       → Faults size place n d (t ∷ ts) n fault.LineTooLong 0
@@ -170,7 +173,7 @@ pub data Faults (size : ℕ) : ℕ → ℕ → Draft → List LineBytes → ℕ 
   rootless : {place n : ℕ} {d : Draft} → d.block ≡ None → d.root ≡ None
       → Faults size place n d [] n fault.NoRoot 0
 
--- the draft is the script once its last phase is closed
+-- all lines have come: the draft is this script, once its last phase is closed
 pub record IsWhole (d : Draft) (s : Script) : Type 0 where
   pub closed : d.block ≡ None
   pub manifests : s.manifests ≡ d.manifests
@@ -178,12 +181,13 @@ pub record IsWhole (d : Draft) (s : Script) : Type 0 where
   pub root : d.root ≡ Some s.root
   pub phases : s.phases ≡ d.phases ++ d.phase ∷ []
 
--- the bytes are the script
+-- the bytes are this script: all lines are in order, no block is open, and there is a root
 pub record IsScript (bytes : LineBytes) (s : Script) : Type 0 where
   pub draft : Draft
   pub reads : ReadsLines (length bytes) 0 1 no_draft (lines_of bytes) draft
   pub whole : IsWhole draft s
 
--- the first fault of the bytes: the number of its line, what it is, and its position
+-- the first fault of bytes that are no script: the number of its line, what it is, and its position in
+-- the line
 abbrev pub FirstFault : LineBytes → ℕ → ScriptNumber → ℕ → Type 0
 FirstFault bytes line number at = Faults (length bytes) 0 1 no_draft (lines_of bytes) line number at

@@ -1,5 +1,5 @@
 -- Inside.
--- The words of a command, and what they stand for.
+-- Kinds of words, which readers tell apart.
 use Rattle.std.specs.Prelude.{◌≡◌, ℕ, List, [], ◌∷◌, codes, false}
 use Rattle.std.specs.Prelude.{Contains}
 use Rattle.std.specs.List.{list_any}
@@ -13,7 +13,7 @@ use Rattle.cm_command.specs.Words.{IsTargetText, IsOriginText}
 abbrev pub IsIncarnation : List ℕ → Type 0
 IsIncarnation t = (n : ℕ) × IsTargetText t (Inc n)
 
--- the origins that are no child
+-- the words for sources that aren't children
 abbrev pub origin_words : List (List ℕ)
 origin_words = codes "parent" ∷ codes "self" ∷ codes "framework" ∷ codes "void" ∷ []
 
@@ -21,13 +21,13 @@ origin_words = codes "parent" ∷ codes "self" ∷ codes "framework" ∷ codes "
 abbrev pub IsChildOrigin : List ℕ → Type 0
 IsChildOrigin t = (c : ChildName) × IsOriginText t (Child c)
 
--- the words that stand for rights
+-- all words that stand for rights
 abbrev pub right_words : List (List ℕ)
 right_words =
     codes "connect" ∷ codes "enumerate" ∷ codes "execute" ∷ codes "get_attributes" ∷ codes "modify_directory"
     ∷ codes "r*" ∷ codes "read_bytes" ∷ codes "rw*" ∷ codes "rx*" ∷ codes "traverse"
     ∷ codes "update_attributes" ∷ codes "w*" ∷ codes "write_bytes" ∷ codes "x*" ∷ []
 
--- one of them that is none of those
+-- a word for rights that isn't among the used ones
 abbrev pub IsUnused : List (List ℕ) → List ℕ → Type 0
 IsUnused used t = Contains right_words t × (list_any (bytes_eq t) used ≡ false)

@@ -11,7 +11,7 @@ use Rattle.cm_command.specs.Words.{IsUrlText}
 use Rattle.cm_command.specs.Grammar.{LineBytes, CommandText}
 use Rattle.cm_command.specs.Written.{target_text, give_words, IsTarget, IsWritableGive}
 
--- the words of a command
+-- the words that a command is written as, of which its line is made
 abbrev pub command_words : Command → List LineBytes
 command_words (command.Resolve a) = codes "resolve" ∷ target_text a ∷ []
 command_words (command.Start a) = codes "start" ∷ target_text a ∷ []
@@ -34,7 +34,7 @@ command_words (command.Events a n) = codes "events" ∷ target_text a ∷ decima
 abbrev pub command_text : Command → LineBytes
 command_text c = join_with_byte 32 (command_words c)
 
--- a command whose names, monikers, paths, URL and gives are in the grammar
+-- a command that a line can ask for: its names, monikers, paths, URL and offers are in the grammar
 abbrev pub IsWritable : Command → Type 0
 IsWritable (command.Resolve a) = IsTarget a
 IsWritable (command.Start a) = IsTarget a
@@ -53,10 +53,10 @@ IsWritable (command.Survey a) = IsTarget a
 IsWritable (command.Exited a) = IsTarget a
 IsWritable (command.Events a n) = IsTarget a × (n < 2 ^ 64)
 
--- the line that such a command is written as asks for it
+-- the line that is written of a command asks for it
 abbrev pub WritesItsLine : Type 0
 WritesItsLine = (c : Command) → IsWritable c → CommandText (command_text c) c
 
--- and what a line asks for is such a command, so that it can be written
+-- what a line asks for can be written
 abbrev pub WhatIsReadIsWritable : Type 0
 WhatIsReadIsWritable = (t : LineBytes) (c : Command) → CommandText t c → IsWritable c

@@ -1,4 +1,4 @@
-//! What a group may add behind its origin.
+//! What a group may add after its origin.
 //!
 //! What can be added is what an offer can say in Fuchsia's component manifest reference
 //! (fuchsia.dev). The words, and their order, are this project's own choice.
@@ -16,7 +16,7 @@ use cm_decl::Kind;
 use cm_names::{Name, Rights, SubDir};
 use std::alloc::Global;
 
-/// A word behind the origin of a group.
+/// A word after the origin of a group.
 #[derive(Drop)]
 pub enum Addition {
     /// `as=NAME`
@@ -49,7 +49,7 @@ fn read_literal(word: &[u8], literal: &str) -> Result<(), WordFault>
     }
 }
 
-/// The name behind `as=`.
+/// The name in a word `as=NAME`, or the fault of the name.
 fn read_target(alloc: Global, word: &[u8]) -> Result<Name, WordFault>
     ensures { MatchResult result (λ name. IsTargetWord word.now name)
         (λ e. IsWordFault (λ t. (name : Seq ℕ) × IsTargetWord t name) word.now e) }
@@ -63,7 +63,7 @@ fn read_target(alloc: Global, word: &[u8]) -> Result<Name, WordFault>
     }
 }
 
-/// The rights behind `rights=`.
+/// The rights in a word `rights=WORDS`, or their fault.
 fn read_rights_word(alloc: Global, word: &[u8]) -> Result<Rights, WordFault>
     ensures { MatchResult result (λ rights. IsRightsWord word.now rights)
         (λ e. IsWordFault (λ t. (rights : RightSet) × IsRightsWord t rights) word.now e) }
@@ -77,7 +77,7 @@ fn read_rights_word(alloc: Global, word: &[u8]) -> Result<Rights, WordFault>
     }
 }
 
-/// The subdirectory behind `subdir=`.
+/// The subdirectory in a word `subdir=PATH`, or its fault.
 fn read_subdir_word(alloc: Global, word: &[u8]) -> Result<SubDir, WordFault>
     ensures { MatchResult result (λ subdir. IsSubdirWord word.now subdir)
         (λ e. IsWordFault (λ t. (subdir : Seq ℕ) × IsSubdirWord t subdir) word.now e) }
@@ -91,7 +91,7 @@ fn read_subdir_word(alloc: Global, word: &[u8]) -> Result<SubDir, WordFault>
     }
 }
 
-/// `same_as_target`, or `+`.
+/// The addition of a word that may still be `same_as_target` or `+`, or its fault.
 fn from_same(kind: Kind, word: &[u8]) -> Result<Addition, WordFault>
     ensures { MatchResult result (λ addition. IsAddition 4 kind word.now addition)
         (λ e. IsWordFault (λ t. (t ≡ codes "same_as_target") ⊎ (t ≡ codes "+")) word.now e) }
@@ -105,7 +105,7 @@ fn from_same(kind: Kind, word: &[u8]) -> Result<Addition, WordFault>
     }
 }
 
-/// `transitional` or `same_as_target`, or `+`.
+/// The addition of a word that may still be `transitional`, `same_as_target` or `+`, or its fault.
 fn from_transitional(kind: Kind, word: &[u8]) -> Result<Addition, WordFault>
     ensures { MatchResult result (λ addition. IsAddition 4 kind word.now addition)
         (λ e. IsWordFault (λ t. (t ≡ codes "transitional") ⊎ ((t ≡ codes "same_as_target")
@@ -120,7 +120,7 @@ fn from_transitional(kind: Kind, word: &[u8]) -> Result<Addition, WordFault>
     }
 }
 
-/// `optional`, `transitional` or `same_as_target`, or what may stand behind it.
+/// `optional`, `transitional` or `same_as_target`, or what may stand after it.
 fn from_optional(kind: Kind, word: &[u8]) -> Result<Addition, WordFault>
     ensures { MatchResult result (λ addition. IsAddition 4 kind word.now addition)
         (λ e. IsWordFault (IsSomeAddition 4 kind) word.now e) }
@@ -134,7 +134,7 @@ fn from_optional(kind: Kind, word: &[u8]) -> Result<Addition, WordFault>
     }
 }
 
-/// `weak`, or what may stand behind it.
+/// `weak`, or what may stand after it.
 fn from_weak(kind: Kind, word: &[u8]) -> Result<Addition, WordFault>
     ensures { MatchResult result (λ addition. IsAddition 3 kind word.now addition)
         (λ e. IsWordFault (IsSomeAddition 3 kind) word.now e) }
@@ -148,7 +148,7 @@ fn from_weak(kind: Kind, word: &[u8]) -> Result<Addition, WordFault>
     }
 }
 
-/// The subdirectory of a directory, or what may stand behind it.
+/// The subdirectory of a directory, or what may stand after it.
 fn from_subdir(alloc: Global, kind: Kind, word: &[u8]) -> Result<Addition, WordFault>
     ensures { MatchResult result (λ addition. IsAddition 2 kind word.now addition)
         (λ e. IsWordFault (IsSomeAddition 2 kind) word.now e) }
@@ -165,7 +165,7 @@ fn from_subdir(alloc: Global, kind: Kind, word: &[u8]) -> Result<Addition, WordF
     }
 }
 
-/// The rights of a directory, or what may stand behind them.
+/// The rights of a directory, or what may stand after them.
 fn from_rights(alloc: Global, kind: Kind, word: &[u8]) -> Result<Addition, WordFault>
     ensures { MatchResult result (λ addition. IsAddition 1 kind word.now addition)
         (λ e. IsWordFault (IsSomeAddition 1 kind) word.now e) }
@@ -182,7 +182,7 @@ fn from_rights(alloc: Global, kind: Kind, word: &[u8]) -> Result<Addition, WordF
     }
 }
 
-/// The target's name, or what may stand behind it.
+/// The target's name, or what may stand after it.
 fn from_target(alloc: Global, kind: Kind, word: &[u8]) -> Result<Addition, WordFault>
     ensures { MatchResult result (λ addition. IsAddition 0 kind word.now addition)
         (λ e. IsWordFault (IsSomeAddition 0 kind) word.now e) }

@@ -94,6 +94,7 @@ impl From<Memory> for CommandFault {
 
     ghost from_gives = { λ _ e. e ≡ OutOfMemory };
 
+    /// For `?` after a call that lacked memory.
     fn from(_: Memory) -> CommandFault {
         CommandFault::Memory
     }

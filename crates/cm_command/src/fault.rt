@@ -27,7 +27,7 @@ pub enum ScriptNumber {
 }
 
 impl ScriptNumber {
-    /// The number that is printed.
+    /// The fault's number, as it is printed.
     pub fn number(self) -> u8
         ensures { result ≡ number_of self }
     {
@@ -42,7 +42,7 @@ impl ScriptNumber {
         }
     }
 
-    /// The word that is printed.
+    /// The fault's word, as it is printed after the number.
     pub fn word(self) -> &'static str
         ensures { result.now ≡ fault_word self }
     {
@@ -80,6 +80,7 @@ impl From<Memory> for ScriptFault {
 
     ghost from_gives = { λ _ e. e ≡ OutOfMemory };
 
+    /// For `?` after a call that lacked memory.
     fn from(_: Memory) -> ScriptFault {
         ScriptFault::Memory
     }
@@ -92,6 +93,7 @@ impl fmt::Display for ScriptFault {
 
     ghost output = { λ fault. Some (fault_text fault) };
 
+    /// Writes `line L: NUMBER WORD`, and at a bad command ` at POSITION`.
     fn fmt<W: fmt::Write>(&self, f: &mut fmt::Formatter<W>) -> fmt::Result {
         match self {
             ScriptFault::Memory => f.write_str("out of memory"),

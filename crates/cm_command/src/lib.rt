@@ -18,7 +18,7 @@
 //! | `Scripts`, `FaultText` | a script's lines, the script that they are, and its first fault |
 //! | `Laws` | that a text is one script at most, and none where it has a fault |
 //! | `Counts`, `PathPlaces`, `Additions` | how far a word can go, for the readers of words |
-//! | `Pieces`, `Places` | where a line stands behind some of its words |
+//! | `Pieces`, `Places` | where a line stands after some of its words |
 #![tactic(auto)]
 
 pub mod addition;

@@ -1,4 +1,4 @@
-//! Where a line stands behind some of its words.
+//! Where a line stands after some of its words.
 
 ghost use Rattle.std.specs.Prelude.{◌≡◌};
 ghost use Rattle.cm_command.specs.Places as spec;
@@ -44,7 +44,7 @@ pub enum Verb {
 }
 
 impl Verb {
-    /// The word.
+    /// The first word of a command of this kind.
     pub fn word(self) -> &'static str
         ensures { result.now ≡ spec.verb_word self }
     {
@@ -67,7 +67,7 @@ impl Verb {
         }
     }
 
-    /// All verbs.
+    /// All kinds of commands.
     pub fn all() -> [Verb; 15]
         ensures { result ≡ spec.verbs }
     {
@@ -115,7 +115,7 @@ pub struct Creation {
     pub gives: List<Give>,
 }
 
-/// Where a line stands behind some of its words, and what they have said.
+/// Where a line stands after some of its words, and what they have said.
 #[derive(Drop)]
 pub enum LineState {
     /// The verb is next.

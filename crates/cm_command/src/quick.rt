@@ -47,7 +47,7 @@ fn by_last_word(alloc: Global, at: LineState, rest: &[u8]) -> Result<Option<Comm
     }
 }
 
-/// The command of a verb and what stands behind the space behind it, if it is quickly read.
+/// The command of a verb and what stands after the space after it, if it is quickly read.
 fn behind_verb(alloc: Global, verb: Verb, rest: &[u8]) -> Result<Option<Command>, Memory>
     ensures { IfOk result (λ found. IfSome found (LeadsTo (place.Verb verb) rest.now)) }
 {

@@ -98,7 +98,7 @@ pub fn read_command(alloc: Global, line: &[u8]) -> Result<Command, CommandFault>
     judge_line(alloc, line)
 }
 
-/// The builtin capability that stands behind the word `builtin` and a space.
+/// The builtin capability that stands after the word `builtin` and a space.
 ///
 /// `Err(BadCommand(n))` comes where the words name none: their first n bytes are the longest prefix
 /// of them that such words begin with. `Err(Memory)` comes where memory runs out. The grammar is

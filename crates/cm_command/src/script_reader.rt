@@ -37,7 +37,7 @@ pub struct Draft {
     pub root: Option<Text>,
     /// The phases that `sync` has ended.
     pub phases: List<List<Line>>,
-    /// The lines behind the last `sync`.
+    /// The lines after the last `sync`.
     pub phase: List<Line>,
     /// Whether a command or `sync` was read.
     pub begun: bool,
@@ -68,7 +68,7 @@ pub enum LineFault {
 ///
 /// - `LineTooLong` where it has more than 65,536 bytes;
 /// - `TooLarge` where more than 67,108,864 bytes stand up to its end;
-/// - `BadCommand` where a header line isn't in the grammar, stands behind a command or `sync`, is a
+/// - `BadCommand` where a header line isn't in the grammar, stands after a command or `sync`, is a
 ///   second root line or repeats a builtin's kind and name; the position is 0 in the last three
 ///   cases, else the length of the line's longest prefix that such a line begins with;
 /// - `NoRoot` where it is `sync` and no root line came before;
@@ -98,7 +98,7 @@ fn fault_at(line: u32, fault: LineFault) -> ScriptFault
     }
 }
 
-/// That fault.
+/// The fault of a script whose line of this number has this fault, at this position of it.
 fn bad(line: u32, number: ScriptNumber, at: u32) -> ScriptFault
     ensures { result ≡ ScriptFault.Bad line number at }
 {
@@ -122,10 +122,12 @@ struct LaneStart<'a> {
     digits: u32,
     /// The number, or 16 where it is larger.
     lane: u32,
-    /// What stands behind the number and the space.
+    /// What stands after the number and the space.
     rest: &'a [u8],
 }
 
+/// The lane that a line begins with, and the command that follows it; `None` where it begins with no
+/// number and space. Every lane above 15 is given as 16.
 fn lane_start(line: &[u8]) -> Option<LaneStart<'_>>
     requires { length line.now ≤ spec.line_limit }
     ensures { MatchOption result ((n : ℕ) (rest : Seq ℕ) → spec.IsLane line.now n rest → ⊥)
@@ -145,7 +147,7 @@ fn lane_start(line: &[u8]) -> Option<LaneStart<'_>>
     })
 }
 
-/// The fault of a line whose part behind so many bytes has that fault.
+/// The fault of a line whose part after so many bytes has that fault.
 fn fault_behind(len: u32, fault: CommandFault) -> LineFault
     requires { len + spec_inside.place_of fault < 2 ^ 32 }
     ensures { result ≡ spec_inside.fault_behind len fault }
@@ -156,7 +158,7 @@ fn fault_behind(len: u32, fault: CommandFault) -> LineFault
     }
 }
 
-/// The URL that stands behind so many bytes of a line.
+/// The URL that stands after so many bytes of a line.
 fn read_url_at(alloc: Global, len: u32, url: &[u8]) -> Result<Text, LineFault>
     requires { len + length url.now < 2 ^ 31 }
     ensures { MatchResult result (λ text. (text ≡ url.now) × IsUrlText url.now)
@@ -181,7 +183,7 @@ fn is_repeated(earlier: &List<Builtin>, builtin: &Builtin) -> bool
     earlier.as_slice().iter().any(|other| other.kind == builtin.kind && other.name == builtin.name)
 }
 
-/// The first line of some bytes, without its line feed, and the bytes behind it.
+/// The first line of some bytes, without its line feed, and the bytes after it.
 pub fn cut_line(bytes: &[u8]) -> (&[u8], &[u8])
     requires { 0 < length bytes.now }
     ensures lines { spec.lines_of bytes.now ≡ result.0.now ∷ spec.lines_of result.1.now }
@@ -216,13 +218,14 @@ impl From<Memory> for LineFault {
 
     ghost from_gives = { λ _ e. e ≡ OutOfMemory };
 
+    /// For `?` after a call that lacked memory.
     fn from(_: Memory) -> LineFault {
         LineFault::Memory
     }
 }
 
 impl Draft {
-    /// The draft of no line.
+    /// A draft before the first line.
     fn new(alloc: Global) -> Draft
         ensures { result ≡ spec.no_draft }
     {
@@ -260,7 +263,7 @@ impl Draft {
         Ok(number)
     }
 
-    /// Takes one line more.
+    /// Takes one more line of the script, or tells its fault; then the draft is of no more use.
     fn take(&mut self, alloc: Global, number: u32, line: &[u8]) -> Result<(), LineFault>
         requires { length line.now ≤ spec.line_limit }
         ensures { MatchResult result (λ _. spec.TakesScriptLine number line.now self.old self.new)
@@ -311,7 +314,7 @@ impl Draft {
         Ok(())
     }
 
-    /// Takes a line `manifest URL`.
+    /// Takes a line `manifest URL`, which opens a block, or tells its fault.
     fn open(&mut self, alloc: Global, number: u32, url: &[u8]) -> Result<(), LineFault>
         requires closed { self.old.block ≡ None }
         requires short { length url.now ≤ spec.line_limit }
@@ -334,7 +337,7 @@ impl Draft {
         Ok(())
     }
 
-    /// Takes a line `builtin ..`.
+    /// Takes a line `builtin ..`, or tells its fault.
     fn provide(&mut self, alloc: Global, words: &[u8]) -> Result<(), LineFault>
         requires closed { self.old.block ≡ None }
         requires short { length words.now ≤ spec.line_limit }
@@ -356,7 +359,7 @@ impl Draft {
         Ok(())
     }
 
-    /// Takes a line `root URL`.
+    /// Takes a line `root URL`, or tells its fault.
     fn take_root(&mut self, alloc: Global, url: &[u8]) -> Result<(), LineFault>
         requires closed { self.old.block ≡ None }
         requires short { length url.now ≤ spec.line_limit }
@@ -378,7 +381,7 @@ impl Draft {
         Ok(())
     }
 
-    /// Takes a line `sync`.
+    /// Takes a line `sync`, which ends a phase, or tells its fault.
     fn sync(&mut self, alloc: Global) -> Result<(), LineFault>
         requires { self.old.block ≡ None }
         ensures { MatchResult result
@@ -394,7 +397,7 @@ impl Draft {
         Ok(())
     }
 
-    /// Takes a line `LANE COMMAND`.
+    /// Takes a line `LANE COMMAND`, or tells its fault.
     fn command(&mut self, alloc: Global, number: u32, line: &[u8]) -> Result<(), LineFault>
         requires closed { self.old.block ≡ None }
         requires short { length line.now ≤ spec.line_limit }

@@ -23,9 +23,9 @@ use cm_names::{Availability, CapPath, Dependency, List, Memory, Name, Rights, Te
 use cm_world::{Builtin, Target};
 use std::alloc::Global;
 
-/// The place behind one word more.
+/// The state after one word more.
 ///
-/// `Err(Bad)` comes where no place stands behind the word, and tells how many of its prefixes some
+/// `Err(Bad)` comes where no place stands after the word, and tells how many of its prefixes some
 /// word that leads on begins with. `Err(Memory)` comes where memory runs out.
 pub fn step(alloc: Global, place: LineState, word: &[u8]) -> Result<LineState, WordFault>
     ensures { StepsFrom place word.now result }
@@ -59,7 +59,7 @@ pub fn step(alloc: Global, place: LineState, word: &[u8]) -> Result<LineState, W
     }
 }
 
-/// The place behind a verb.
+/// The state after a command's first word, or the word's fault.
 fn take_verb(word: &[u8]) -> Result<LineState, WordFault>
     ensures { StepsFrom place.Start word.now result }
 {
@@ -69,7 +69,7 @@ fn take_verb(word: &[u8]) -> Result<LineState, WordFault>
     }
 }
 
-/// The place behind a target.
+/// The state after the target of a command, or the word's fault.
 pub fn take_target(alloc: Global, verb: Verb, word: &[u8]) -> Result<LineState, WordFault>
     ensures { StepsFrom (place.Verb verb) word.now result }
 {
@@ -79,7 +79,7 @@ pub fn take_target(alloc: Global, verb: Verb, word: &[u8]) -> Result<LineState, 
     }
 }
 
-/// The place behind the collection of `list`.
+/// The state after the collection of `list`.
 fn take_listing(alloc: Global, target: Target, word: &[u8]) -> Result<LineState, WordFault>
     ensures { StepsFrom (place.Listing target) word.now result }
 {
@@ -89,7 +89,7 @@ fn take_listing(alloc: Global, target: Target, word: &[u8]) -> Result<LineState,
     }
 }
 
-/// The place behind the path of `open`.
+/// The state after the path of `open`.
 fn take_opening(alloc: Global, target: Target, word: &[u8]) -> Result<LineState, WordFault>
     ensures { StepsFrom (place.Opening target) word.now result }
 {
@@ -99,7 +99,7 @@ fn take_opening(alloc: Global, target: Target, word: &[u8]) -> Result<LineState,
     }
 }
 
-/// The place behind the name of `open-exposed`.
+/// The state after the name of `open-exposed`.
 fn take_opening_exposed(alloc: Global, target: Target, word: &[u8]) -> Result<LineState, WordFault>
     ensures { StepsFrom (place.OpeningExposed target) word.now result }
 {
@@ -109,7 +109,7 @@ fn take_opening_exposed(alloc: Global, target: Target, word: &[u8]) -> Result<Li
     }
 }
 
-/// The place behind the path of `route`.
+/// The state after the path of `route`.
 fn take_routing(alloc: Global, target: Target, word: &[u8]) -> Result<LineState, WordFault>
     ensures { StepsFrom (place.Routing target) word.now result }
 {
@@ -119,7 +119,7 @@ fn take_routing(alloc: Global, target: Target, word: &[u8]) -> Result<LineState,
     }
 }
 
-/// The place behind the number of `events`.
+/// The state after the number of `events`.
 fn take_streaming(target: Target, word: &[u8]) -> Result<LineState, WordFault>
     ensures { StepsFrom (place.Streaming target) word.now result }
 {
@@ -129,7 +129,7 @@ fn take_streaming(target: Target, word: &[u8]) -> Result<LineState, WordFault>
     }
 }
 
-/// The place behind the collection of `create`.
+/// The state after the collection of `create`.
 fn take_collection(alloc: Global, parent: Target, word: &[u8]) -> Result<LineState, WordFault>
     ensures { StepsFrom (place.Creating parent) word.now result }
 {
@@ -139,7 +139,7 @@ fn take_collection(alloc: Global, parent: Target, word: &[u8]) -> Result<LineSta
     }
 }
 
-/// The place behind the child's name of `create`.
+/// The state after the child's name of `create`.
 fn take_child(
     alloc: Global,
     parent: Target,
@@ -154,7 +154,7 @@ fn take_child(
     }
 }
 
-/// The place behind the child's URL of `create`.
+/// The state after the child's URL of `create`.
 fn take_url(
     alloc: Global,
     parent: Target,
@@ -170,7 +170,7 @@ fn take_url(
     }
 }
 
-/// The place behind the word `+`.
+/// The state after the word `+`, which begins a group, or the word's fault.
 fn take_group(creation: Creation, word: &[u8]) -> Result<LineState, WordFault>
     ensures { StepsFrom (place.Groups creation) word.now result }
 {
@@ -181,7 +181,7 @@ fn take_group(creation: Creation, word: &[u8]) -> Result<LineState, WordFault>
     }
 }
 
-/// The place behind the kind of a group.
+/// The state after the kind of a group.
 fn take_group_kind(creation: Creation, word: &[u8]) -> Result<LineState, WordFault>
     ensures { StepsFrom (place.GroupKind creation) word.now result }
 {
@@ -191,7 +191,7 @@ fn take_group_kind(creation: Creation, word: &[u8]) -> Result<LineState, WordFau
     }
 }
 
-/// The place behind the name of what a group gives.
+/// The state after the name of what a group gives.
 fn take_group_name(
     alloc: Global,
     creation: Creation,
@@ -206,7 +206,7 @@ fn take_group_name(
     }
 }
 
-/// The place behind the origin of what a group gives.
+/// The state after the origin of what a group gives.
 fn take_from(
     alloc: Global,
     creation: Creation,
@@ -222,7 +222,7 @@ fn take_from(
     }
 }
 
-/// The place behind an addition, or behind the word `+`.
+/// The state after an addition, or after the word `+`.
 fn take_addition(
     alloc: Global,
     creation: Creation,
@@ -238,7 +238,7 @@ fn take_addition(
     }
 }
 
-/// The place behind the kind of a builtin capability.
+/// The state after the kind of a builtin capability.
 fn take_builtin_kind(word: &[u8]) -> Result<LineState, WordFault>
     ensures { StepsFrom place.BuiltinKind word.now result }
 {
@@ -248,7 +248,7 @@ fn take_builtin_kind(word: &[u8]) -> Result<LineState, WordFault>
     }
 }
 
-/// The place behind the name of a builtin capability.
+/// The state after the name of a builtin capability.
 fn take_builtin_name(alloc: Global, kind: Kind, word: &[u8]) -> Result<LineState, WordFault>
     ensures { StepsFrom (place.BuiltinName kind) word.now result }
 {
@@ -258,7 +258,7 @@ fn take_builtin_name(alloc: Global, kind: Kind, word: &[u8]) -> Result<LineState
     }
 }
 
-/// The place behind the path of a builtin directory.
+/// The state after the path of a builtin directory.
 fn take_builtin_path(alloc: Global, name: Name, word: &[u8]) -> Result<LineState, WordFault>
     ensures { StepsFrom (place.BuiltinPath name) word.now result }
 {
@@ -268,7 +268,7 @@ fn take_builtin_path(alloc: Global, name: Name, word: &[u8]) -> Result<LineState
     }
 }
 
-/// The place behind the rights of a builtin directory.
+/// The state after the rights of a builtin directory.
 fn take_builtin_rights(
     alloc: Global,
     name: Name,
@@ -331,14 +331,14 @@ fn read_kind(word: &[u8]) -> Result<Kind, WordFault>
     Err(WordFault::Bad(text_prefixes("protocol", word).max(text_prefixes("directory", word))))
 }
 
-/// The place behind the command.
+/// The state after all words of this command.
 fn asks(command: Command) -> LineState
     ensures { result ≡ spec.asks command }
 {
     LineState::Whole(ParsedLine::Command(command))
 }
 
-/// The place behind a verb and its target.
+/// The state after a verb and its target.
 fn behind_target(verb: Verb, target: Target) -> LineState
     ensures { result ≡ spec.behind_target verb target }
 {
@@ -361,6 +361,7 @@ fn behind_target(verb: Verb, target: Target) -> LineState
     }
 }
 
+/// The state of a `create` after the child's URL: nothing is offered to it yet.
 fn create(alloc: Global, parent: Target, coll: Name, name: Name, url: Text) -> LineState
     ensures { result ≡ spec.create parent coll name url }
 {
@@ -373,7 +374,7 @@ fn create(alloc: Global, parent: Target, coll: Name, name: Name, url: Text) -> L
     })
 }
 
-/// The place behind the origin of what a group gives.
+/// The state after the origin of what a group gives.
 fn give(creation: Creation, kind: Kind, name: Name, from: Origin) -> Result<LineState, Memory>
     ensures { IfOk result (λ next. next ≡ spec.give creation kind name from) }
 {
@@ -391,7 +392,7 @@ fn give(creation: Creation, kind: Kind, name: Name, from: Origin) -> Result<Line
     Ok(LineState::Additions(creation, give, 0))
 }
 
-/// The place behind an addition.
+/// The state after an addition to what the group gives. `Err` where memory runs out.
 fn add(creation: Creation, mut give: Give, addition: Addition) -> Result<LineState, Memory>
     ensures { IfOk result
         (λ next. (n : ℕ) (t : Seq ℕ) → IsAddition n give.kind t addition
@@ -430,7 +431,7 @@ fn add(creation: Creation, mut give: Give, addition: Addition) -> Result<LineSta
     }
 }
 
-/// The place behind the name of a builtin capability.
+/// The state after the name of a builtin capability.
 fn behind_builtin(alloc: Global, kind: Kind, name: Name) -> Result<LineState, Memory>
     ensures { IfOk result (λ next. next ≡ spec.behind_builtin kind name) }
 {
@@ -448,7 +449,7 @@ fn behind_builtin(alloc: Global, kind: Kind, name: Name) -> Result<LineState, Me
     }
 }
 
-/// The place behind the rights of a builtin directory.
+/// The state after the rights of a builtin directory.
 fn provide(name: Name, path: CapPath, rights: Rights) -> LineState
     ensures { result ≡ spec.provides (spec.directory_of name path rights) }
 {
@@ -488,6 +489,7 @@ fn with_give(mut creation: Creation, give: Give) -> Result<Creation, Memory>
     Ok(creation)
 }
 
+/// The command of a `create` whose words have all come.
 fn created(creation: Creation) -> ParsedLine
     ensures { result ≡ spec.created creation }
 {

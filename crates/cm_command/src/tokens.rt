@@ -69,6 +69,7 @@ impl From<Memory> for WordFault {
 
     ghost from_gives = { λ _ e. e ≡ OutOfMemory };
 
+    /// For `?` after a call that lacked memory.
     fn from(_: Memory) -> WordFault {
         WordFault::Memory
     }
@@ -84,7 +85,7 @@ pub fn text_of(word: &[u8]) -> Option<&str>
     }
 }
 
-/// How many bytes it has in front that may stand in a name behind the first one.
+/// How many bytes it has in front that may stand in a name after the first one.
 fn name_bytes(rest: &[u8]) -> usize
     ensures { result ≡ length (take_while continues_name rest.now) }
 {
@@ -159,7 +160,7 @@ pub fn read_url(alloc: Global, word: &[u8]) -> Result<Text, WordFault>
     Ok(Text::from_str(alloc, text)?)
 }
 
-/// The fault of a word from that of its rest, which stands behind `len` bytes.
+/// The fault of a word from that of its rest, which stands after `len` bytes.
 pub fn behind(len: usize, fault: WordFault) -> WordFault
     requires { Fits len fault }
     ensures { result ≡ fault_behind len fault }
@@ -218,16 +219,16 @@ pub fn literal_prefixes(literals: &[&str], word: &[u8]) -> usize
     prefixes
 }
 
-/// Where the text of a path stands behind some of its bytes.
+/// Where the text of a path stands after some of its bytes.
 #[derive(Clone, Copy)]
 enum PathState {
     /// At the beginning of a part.
     Slash,
-    /// Behind a dot, which begins a part.
+    /// After a dot, which begins a part.
     Dot,
-    /// Behind two dots, which begin a part.
+    /// After two dots, which begin a part.
     Dots,
-    /// Behind a part's bytes that are no dots alone.
+    /// After a part's bytes that are no dots alone.
     Inside,
 }
 
@@ -242,7 +243,7 @@ impl PathState {
         }
     }
 
-    /// The place behind one byte more, where some path goes on with it.
+    /// The place after one byte more, where some path goes on with it.
     fn next(self, byte: u8) -> Option<PathState>
         ensures { MatchOption result
             ((t : Seq ℕ) → is_relative (path_prefix self ++ byte ∷ t) ≡ false)

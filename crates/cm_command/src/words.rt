@@ -7,7 +7,7 @@ ghost use Rattle.cm_command.specs.Numbers.{is_digit as is_digit_of, IsDecimal, v
 
 use memchr::memchr;
 
-/// The bytes before the first `separator`, and those behind it where it is there.
+/// The bytes before the first `separator`, and those after it where it is there.
 pub fn cut(bytes: &[u8], separator: u8) -> (&[u8], Option<&[u8]>)
     ensures clean { All (λ b. (b == separator) ≡ false) result.0.now }
     ensures whole { MatchOption result.1 (bytes.now ≡ result.0.now)
@@ -19,6 +19,7 @@ pub fn cut(bytes: &[u8], separator: u8) -> (&[u8], Option<&[u8]>)
     }
 }
 
+/// The place of the first separator.
 fn position_of(bytes: &[u8], separator: u8) -> Option<usize>
     ensures place { result ≡ position (λ b. b == separator) bytes.now }
     ensures none { IfNone result (All (λ b. (b == separator) ≡ false) bytes.now) }
@@ -27,7 +28,7 @@ fn position_of(bytes: &[u8], separator: u8) -> Option<usize>
     memchr(separator, bytes)
 }
 
-/// What stands behind `prefix`, where the bytes begin with it.
+/// What stands after `prefix`, where the bytes begin with it.
 pub fn strip<'a>(bytes: &'a [u8], prefix: &str) -> Option<&'a [u8]>
     ensures { MatchOption result ((rest : Seq ℕ) → bytes.now ≡ prefix.now ++ rest → ⊥)
         (λ rest. bytes.now ≡ prefix.now ++ rest.now) }
@@ -57,6 +58,7 @@ pub fn is_digit(byte: u8) -> bool
     byte >= b'0' && byte <= b'9'
 }
 
+/// Whether all bytes are decimal digits.
 fn are_digits(bytes: &[u8]) -> bool
     ensures { IsTrue result ↔ All (λ b. IsTrue (is_digit_of b)) bytes.now }
 {

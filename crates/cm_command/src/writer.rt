@@ -46,7 +46,7 @@ pub fn write_command(alloc: Global, command: &Command) -> Result<Text, Memory>
     }
 }
 
-/// The line of an `events`.
+/// The line of the command `events`. `Err` where memory runs out.
 fn write_events(alloc: Global, target: &Target, from: u64) -> Result<Text, Memory>
     ensures { IfOk result (λ text. text ≡ spec_inside.command_text (asked.Events target.now from)) }
 {
@@ -56,7 +56,7 @@ fn write_events(alloc: Global, target: &Target, from: u64) -> Result<Text, Memor
     Ok(text)
 }
 
-/// The line of a `create`.
+/// The line of the command `create`. `Err` where memory runs out.
 fn write_create(
     alloc: Global,
     parent: &Target,
@@ -75,7 +75,7 @@ fn write_create(
     Ok(text)
 }
 
-/// A space and the word.
+/// Adds a space and the word to the line. `Err` where memory runs out.
 fn push_word(text: &mut Text, word: &str) -> Result<(), Memory>
     ensures { OnOk result (text.new ≡ text.old ++ codes " " ++ word.now) }
 {
@@ -118,7 +118,7 @@ fn with_word(alloc: Global, verb: &str, target: &Target, word: &str) -> Result<T
     Ok(text)
 }
 
-/// Puts what is offered at the end, as a `create` has it: the words of each group, each behind a
+/// Puts what is offered at the end, as a `create` has it: the words of each group, each after a
 /// space. What is a default is left out. `Err` where memory runs out.
 pub fn push_gives(alloc: Global, text: &mut Text, gives: &List<Give>) -> Result<(), Memory>
     ensures { OnOk result (text.new ≡ text.old
@@ -130,7 +130,7 @@ pub fn push_gives(alloc: Global, text: &mut Text, gives: &List<Give>) -> Result<
     Ok(())
 }
 
-/// The words of one group.
+/// Adds the words of one group to the line. `Err` where memory runs out.
 fn push_give(alloc: Global, text: &mut Text, give: &Give) -> Result<(), Memory>
     ensures { OnOk result (text.new ≡ text.old ++ flat_map spec.spaced (spec.give_words give.now)) }
 {
@@ -195,7 +195,8 @@ fn push_parts(alloc: Global, text: &mut Text, give: &Give) -> Result<(), Memory>
     Ok(())
 }
 
-/// The words of the dependency and of the availability.
+/// Appends the word of the dependency and that of the availability, each after a space, unless it is
+/// the default.
 fn push_words(text: &mut Text, give: &Give) -> Result<(), Memory>
     ensures { OnOk result (text.new ≡ text.old ++ flat_map spec.spaced
         (spec.dependency_word give.now.dependency) ++ flat_map spec.spaced

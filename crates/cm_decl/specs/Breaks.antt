@@ -12,19 +12,20 @@ use Rattle.cm_decl.specs.Rules.{Rule, UnknownRef, NotDeclared, TargetIsSource, R
 use Rattle.cm_decl.specs.Rules.{is_target, is_unknown, is_undeclared, is_given_back, is_required_void}
 use Rattle.cm_decl.specs.Clashes.{clash}
 
--- whether there is an i-th row and it passes
+-- whether there is an i-th row, and it passes the test
 abbrev pub passes_at : {A : Type 0} → (A → Bool) → List A → ℕ → Bool
 passes_at passes rows i = option_map_or passes (slice_get rows i) false
 
--- from a child that isn't declared
+-- whether something is given from a child that isn't declared
 abbrev pub has_unknown_source : Decl → Give → Bool
 has_unknown_source d g = is_unknown (is_child d) g.from
 
--- from self without such a capability, or a directory from framework
+-- whether something is given from the component itself, which doesn't provide it, or a directory from
+-- the framework
 abbrev pub has_undeclared_source : Decl → Give → Bool
 has_undeclared_source d g = is_undeclared d g.kind g.from g.source_name
 
--- whether a row breaks a rule
+-- whether the i-th row of a section breaks this rule
 abbrev pub breaks : Decl → Rule → Section → ℕ → Bool
 breaks d UnknownRef Uses i = passes_at (λ (u : Usage). is_unknown (is_child d) u.from) d.uses i
 breaks d UnknownRef Offers i =

@@ -1,5 +1,5 @@
 -- Promised.
--- The rules that speak of two rows, and which other row a row clashes with.
+-- The rules that speak of two rows: with which earlier row a row clashes.
 use Rattle.std.specs.Prelude.{ℕ, List, Bool, ◌&&◌, ◌||◌, Option, Some, None, take, slice_get, position}
 use Rattle.std.specs.Prelude.{option_map, option_and_then}
 use Rattle.std.specs.Str.{bytes_eq}
@@ -23,7 +23,7 @@ RowPlace = Section × ℕ
 abbrev pub place : Section → ℕ → RowPlace
 place section index = (section, index)
 
--- the first of these rows that passes
+-- the place of the first row that passes the test
 abbrev pub first_row : {A : Type 0} → Section → (A → Bool) → List A → Option RowPlace
 first_row section passes rows = option_map (place section) (position passes rows)
 
@@ -33,46 +33,46 @@ first_before section clashes rows i =
     option_and_then (λ row. first_row section (λ earlier. clashes earlier row) (take i rows))
     (slice_get rows i)
 
--- the first, or the second where the first isn't there
+-- the first value, or the second where there is no first
 abbrev pub or_else : {A : Type 0} → Option A → Option A → Option A
 or_else (Some x) other = Some x
 or_else None other = other
 
--- the child that has the name of the i-th collection
+-- the child that has the name of the i-th collection; the two share their names
 abbrev pub child_of_name : Decl → ℕ → Option RowPlace
 child_of_name d i =
     option_and_then (λ k. first_row Children (λ c. bytes_eq c.name k.name) d.children)
     (slice_get d.collections i)
 
--- children of one name
+-- whether two children have one name
 abbrev pub same_child_name : Child → Child → Bool
 same_child_name a b = bytes_eq a.name b.name
 
--- collections of one name
+-- whether two collections have one name
 abbrev pub same_collection_name : Collection → Collection → Bool
 same_collection_name a b = bytes_eq a.name b.name
 
--- capabilities of one name, of whatever kinds
+-- whether two capabilities have one name, of whatever kinds
 abbrev pub same_capability_name : Capability → Capability → Bool
 same_capability_name a b = bytes_eq a.name b.name
 
--- offers of one target name to one target, of whatever kinds
+-- whether two offers give one name to one target, of whatever kinds
 abbrev pub same_target : Offer → Offer → Bool
 same_target a b = bytes_eq a.to b.to && bytes_eq a.give.target_name b.give.target_name
 
--- exposes of one target name, of whatever kinds
+-- whether two exposes give one name, of whatever kinds
 abbrev pub same_expose : Give → Give → Bool
 same_expose a b = bytes_eq a.target_name b.target_name
 
--- uses at one path
+-- whether two uses have one path
 abbrev pub same_path : Usage → Usage → Bool
 same_path a b = bytes_eq a.path b.path
 
--- one of the two paths lies inside the other
+-- whether the path of one use lies inside that of the other
 abbrev pub are_paths_nested : Usage → Usage → Bool
 are_paths_nested a b = is_inside a.path b.path || is_inside b.path a.path
 
--- the earlier row that this one clashes with: the first, where several do
+-- the earlier row with which this row clashes by this rule: the first, where there are several
 abbrev pub clash : Decl → Rule → Section → ℕ → Option RowPlace
 clash d RepeatedName Children i = first_before Children same_child_name d.children i
 clash d RepeatedName Collections i =

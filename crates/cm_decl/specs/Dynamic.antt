@@ -1,5 +1,5 @@
 -- Promised.
--- The faults of offers that are made to a child when it is created.
+-- The faults of offers that a child in a collection is given when it is created.
 use Rattle.std.specs.Prelude.{ℕ, List, [], ◌∷◌, length, take, Bool, false, ◌&&◌, ◌||◌, Option, option_map}
 use Rattle.std.specs.Prelude.{option_and_then, is_none, find, slice_get, if◌then◌else◌}
 use Rattle.std.specs.List.{list_any, filter_map, range_with_len}
@@ -11,7 +11,7 @@ use Rattle.cm_decl.specs.Rules.{Rule, UnknownRef, NotDeclared, RepeatedTarget, R
 use Rattle.cm_decl.specs.Rules.{is_child, is_unknown, is_required_void}
 use Rattle.cm_decl.specs.Breaks.{has_undeclared_source}
 
--- a source is a declared child, or a dynamic one that is there
+-- whether a child is there: a declared one by the declaration, one in a collection as `dynamic` tells
 abbrev pub is_there : Decl → (ChildName → Bool) → ChildName → Bool
 is_there d dynamic c = if is_none c.coll then is_child d c else dynamic c
 
@@ -19,7 +19,7 @@ is_there d dynamic c = if is_none c.coll then is_child d c else dynamic c
 abbrev pub is_offered : Decl → List ℕ → List ℕ → Bool
 is_offered d coll name = list_any (λ o. bytes_eq o.to coll && bytes_eq o.give.target_name name) d.offers
 
--- whether an offer to a new child breaks a rule, behind the offers to it that stand before
+-- whether an offer to a new child breaks this rule; `before` are the offers to it that come earlier
 abbrev pub give_breaks : Decl → (ChildName → Bool) → List ℕ → List Give → Give → Rule → Bool
 give_breaks d dynamic coll before g UnknownRef = is_unknown (is_there d dynamic) g.from
 give_breaks d dynamic coll before g NotDeclared = has_undeclared_source d g
@@ -41,13 +41,13 @@ abbrev pub give_fault_at : Decl → (ChildName → Bool) → List ℕ → List G
 give_fault_at d dynamic coll gives i =
     option_and_then (λ g. give_fault d dynamic coll (take i gives) g) (slice_get gives i)
 
--- its index and the number of its fault, where it is bad
+-- the index of the i-th offer with the number of its fault, where it has one
 abbrev pub bad_give_at : Decl → (ChildName → Bool) → List ℕ → List Give → ℕ → Option (ℕ × ℕ)
 bad_give_at d dynamic coll gives i =
     option_map (λ rule. (i, number_of rule)) (give_fault_at d dynamic coll gives i)
 
--- the first bad offer to a new child of a collection; dynamic tells which dynamic children are
--- there and not doomed
+-- the index of the first offer that has a fault, with the fault's number; `dynamic` tells which
+-- children in collections are there and not doomed
 abbrev pub bad_give : Decl → (ChildName → Bool) → List ℕ → List Give → Option (ℕ × ℕ)
 bad_give d dynamic coll gives =
     slice_get (filter_map (bad_give_at d dynamic coll gives) (range_with_len 0 (length gives))) 0

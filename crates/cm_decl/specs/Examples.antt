@@ -1,6 +1,6 @@
 -- Inside.
--- Short declarations that worked examples speak of, and their faults. A name of one letter is
--- written by its byte.
+-- Short declarations that worked examples speak of, and their faults. A name of one letter is written
+-- by its byte.
 use Rattle.std.specs.Prelude.{ℕ, List, [], ◌∷◌, false, Option, None}
 use Rattle.cm_decl.specs.declared.decl.Decl.{Decl}
 use Rattle.cm_decl.specs.declared.rows.Child.{Child}
@@ -22,7 +22,7 @@ use Rattle.cm_decl.specs.Graph.{static_name}
 use Rattle.cm_decl.specs.Clashes.{RowPlace}
 use Rattle.cm_decl.specs.Faults.{DeclFault}
 
--- what declares nothing
+-- a declaration of nothing
 abbrev pub no_decl : Decl
 no_decl = record {
   runner = None;
@@ -39,11 +39,11 @@ no_decl = record {
   storage_offers = [];
 }
 
--- a child, with `#` and its name for its URL
+-- a child of this name, whose URL is `#` and the name
 abbrev pub child : List ℕ → Child
 child name = record { name = name; url = 35 ∷ name; eager = false; environment = None }
 
--- a protocol that keeps its name
+-- a protocol that is given under its own name
 abbrev pub give : List ℕ → Origin → Dependency → Availability → Give
 give name from dependency availability = record {
   kind = Protocol;
@@ -56,7 +56,7 @@ give name from dependency availability = record {
   availability = availability;
 }
 
--- from a declared child
+-- the source that is a declared child
 abbrev pub from_child : List ℕ → Origin
 from_child name = origin.Child (static_name name)
 
@@ -102,11 +102,11 @@ use_of name from path = record {
   availability = Required;
 }
 
--- a use from a child that isn't declared
+-- a component that uses something of a child that isn't declared
 abbrev pub used_of_nobody : Decl
 used_of_nobody = record no_decl { children = child a ∷ []; uses = use_of p (from_child b) (47 ∷ p) ∷ [] }
 
--- what the component doesn't declare, offered to its child
+-- a component that offers its child what it doesn't provide
 abbrev pub offered_undeclared : Decl
 offered_undeclared = record no_decl {
   children = child a ∷ [];
@@ -130,7 +130,7 @@ exposed_twice = record no_decl {
 abbrev pub used_twice : Decl
 used_twice = record no_decl { uses = use_of p origin.Parent (47 ∷ p) ∷ use_of q origin.Parent (47 ∷ p) ∷ [] }
 
--- the paths /a/b, /ab and /a
+-- uses at the paths /a/b, /ab and /a: the first lies inside the third
 abbrev pub one_inside : Decl
 one_inside = record no_decl {
   uses =
@@ -138,19 +138,19 @@ one_inside = record no_decl {
       ∷ use_of b origin.Parent (47 ∷ 97 ∷ []) ∷ [];
 }
 
--- what has to be there, exposed from void
+-- two exposes from void, the second of which has to be there
 abbrev pub exposed_from_void : Decl
 exposed_from_void =
     record no_decl { exposes = give p origin.Void Strong Optional ∷ give q origin.Void Strong Required ∷ [] }
 
--- a name that stands twice, and an offer that has to be there from void
+-- a child's name that is declared twice, and an offer from void that has to be there
 abbrev pub twice_named : Decl
 twice_named = record no_decl {
   children = child a ∷ child b ∷ child a ∷ [];
   offers = record { to = a; give = give p origin.Void Strong Required } ∷ [];
 }
 
--- a fault at a row, beside the row that it clashes with
+-- the fault of a row, with the row that it clashes with
 abbrev pub row_fault : ℕ → Section → ℕ → Option RowPlace → DeclFault
 row_fault number section i against =
     record { number = number; section = section; index = i; against = against; cycle = [] }
@@ -161,7 +161,8 @@ row_fault number section i against =
 abbrev pub child_node : List ℕ → Node
 child_node name = node.Child (static_name name)
 
--- two children that are offered something of each other
+-- two children, each of which is offered something of the other; the dependency of the second offer is
+-- said
 abbrev pub two_ways : Dependency → Decl
 two_ways back =
     record no_decl { children = child a ∷ child b ∷ []; offers = offer p a b Strong ∷ offer q b a back ∷ [] }

@@ -11,7 +11,8 @@ use Rattle.cm_decl.specs.Rules.{Rule, number_of}
 use Rattle.cm_decl.specs.Clashes.{RowPlace, clash}
 use Rattle.cm_decl.specs.Breaks.{breaks}
 
--- what is reported: a number, a row, the row that it clashes with, and the nodes of a cycle
+-- what is told of a declaration that isn't valid: the fault's number, its row, the row that this
+-- clashes with, and the nodes of a cycle
 pub record DeclFault : Type 0 where
   pub number : ℕ
   pub section : Section
@@ -19,7 +20,7 @@ pub record DeclFault : Type 0 where
   pub against : Option RowPlace
   pub cycle : List Node
 
--- a fault stands where its row breaks the rule of its number
+-- the declaration has this fault: its row breaks the rule of its number
 pub record IsBroken (d : Decl) (f : DeclFault) : Type 0 where
   pub rule : Rule
   pub broken : IsTrue (breaks d rule f.section f.index)
@@ -27,7 +28,7 @@ pub record IsBroken (d : Decl) (f : DeclFault) : Type 0 where
   pub clashing : f.against ≡ clash d rule f.section f.index
   pub no_cycle : f.cycle ≡ []
 
--- the order in which sections are reported
+-- the order in which the faults of sections are told
 abbrev pub section_rank : Section → ℕ
 section_rank Manifest = 0
 section_rank Program = 1
@@ -40,18 +41,18 @@ section_rank Exposes = 7
 section_rank Environments = 8
 section_rank Graph = 9
 
--- the first is reported before the second: by section, then by index, then by number
+-- the first fault is told before the second: by section, then by index, then by number
 abbrev pub IsBefore : DeclFault → DeclFault → Type 0
 IsBefore f g =
     (section_rank f.section < section_rank g.section) ⊎
     ((section_rank f.section ≡ section_rank g.section) ×
     ((f.index < g.index) ⊎ ((f.index ≡ g.index) × (f.number < g.number))))
 
--- a fault that stands, and before which none stands
+-- the declaration has this fault, and none before it
 pub record IsFirst (d : Decl) (f : DeclFault) : Type 0 where
   pub stands : IsBroken d f
   pub none_before : (g : DeclFault) → IsBroken d g → IsBefore g f → ⊥
 
--- no fault stands
+-- no row of the declaration breaks a rule
 abbrev pub IsFaultless : Decl → Type 0
 IsFaultless d = (f : DeclFault) → IsBroken d f → ⊥

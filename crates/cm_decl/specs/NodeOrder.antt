@@ -13,27 +13,26 @@ abbrev pub rank : Node → ℕ
 rank Own = 0
 rank (Child name) = 1
 
--- how long the name of the collection is; names of one text differ in it, if at all, and names
--- without a colon never do
+-- how long the name of the collection is, by which names that have one text are told apart
 abbrev pub coll_length : Option (List ℕ) → ℕ
 coll_length None = 0
 coll_length (Some coll) = length coll + 1
 
--- the same of a node
+-- how long the name of a node's collection is; 0 where it has none
 abbrev pub node_coll_length : Node → ℕ
 node_coll_length Own = 0
 node_coll_length (Child name) = coll_length name.coll
 
--- by their texts, byte by byte
+-- the order of nodes by their texts, byte by byte
 abbrev pub text_cmp : Node → Node → Ordering
 text_cmp x y = slice_cmp nat_cmp (node_text x) (node_text y)
 
--- the component itself first, then the children by their texts
+-- the order of nodes: the component itself first, then the children by their texts
 abbrev pub node_cmp : Node → Node → Ordering
 node_cmp x y =
     ordering_then (nat_cmp (rank x) (rank y))
     (ordering_then (text_cmp x y) (nat_cmp (node_coll_length x) (node_coll_length y)))
 
--- whether the first is the second or stands before it
+-- whether x is y or comes before it
 abbrev pub node_at_most : Node → Node → Bool
 node_at_most x y = is_le (node_cmp x y)

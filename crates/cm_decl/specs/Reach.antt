@@ -1,13 +1,13 @@
 -- Promised.
--- Ways from node to node, over any relation.
+-- Paths from node to node, over any relation `On` of direct dependency.
 use Rattle.std.specs.Prelude.{List, [], ◌∷◌}
 
--- the list leads from the first to the last: each depends directly on the next
+-- a path from x to y through these nodes: each directly depends on the next
 abbrev pub DependencyPath : {N : Type 0} → (N → N → Type 0) → N → List N → N → Type 0
 DependencyPath On x [] y = On x y
 DependencyPath On x (z ∷ zs) y = On x z × DependencyPath On z zs y
 
--- the first depends on the last, directly or through others
+-- x depends on y, directly or through others
 abbrev pub Reaches : {N : Type 0} → (N → N → Type 0) → N → N → Type 0
 Reaches {N} On x y = (between : List N) × DependencyPath On x between y
 
@@ -15,6 +15,6 @@ Reaches {N} On x y = (between : List N) × DependencyPath On x between y
 abbrev pub HasCycle : {N : Type 0} → (N → N → Type 0) → Type 0
 HasCycle {N} On = (x : N) × Reaches On x x
 
--- no node does
+-- no node depends on itself, directly or through others
 abbrev pub NoCycle : {N : Type 0} → (N → N → Type 0) → Type 0
 NoCycle On = HasCycle On → ⊥

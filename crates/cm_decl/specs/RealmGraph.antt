@@ -9,11 +9,11 @@ pub record RealmGraph (N : Type 0) : Type 0 where
   pub has : N → Bool
   pub edge : N → N → Bool
 
--- a strong edge: the first strongly depends on the second
+-- a strong edge: x strongly depends on y
 abbrev pub Strong : {N : Type 0} → RealmGraph N → N → N → Type 0
 Strong r x y = IsTrue (r.edge x y)
 
--- an implied edge: where there is no cycle, each child on which the component doesn't depend
+-- an implied edge: in a graph without a cycle, each child on which the component doesn't depend
 -- depends on the component
 pub record IsImplied {N : Type 0} (r : RealmGraph N) (x y : N) : Type 0 where
   pub acyclic : NoCycle (Strong r)
@@ -22,10 +22,10 @@ pub record IsImplied {N : Type 0} (r : RealmGraph N) (x y : N) : Type 0 where
   pub apart : Reaches (Strong r) r.own x → ⊥
   pub own : y ≡ r.own
 
--- the first depends directly on the second
+-- x depends on y directly, by a strong or an implied edge
 abbrev pub Directly : {N : Type 0} → RealmGraph N → N → N → Type 0
 Directly r x y = Strong r x y ⊎ IsImplied r x y
 
--- the first depends on the second, directly or through others
+-- x depends on y, directly or through others
 abbrev pub Depends : {N : Type 0} → RealmGraph N → N → N → Type 0
 Depends r x y = Reaches (Directly r) x y

@@ -14,7 +14,7 @@ use Rattle.cm_decl.specs.declared.origin.Origin.{Origin}
 use Rattle.cm_decl.specs.declared.origin.Origin.TheVariants.{Own, Framework, Child, Void}
 use Rattle.cm_decl.specs.Same.{same_kind}
 
--- what a row can do wrong
+-- the rules of rows, by what breaks them
 pub data Rule : Type 0 where
   RepeatedName : Rule
   UnknownRef : Rule
@@ -25,7 +25,7 @@ pub data Rule : Type 0 where
   PathInside : Rule
   RequiredVoid : Rule
 
--- the number that is printed
+-- the number of a rule's fault, as it is printed
 abbrev pub number_of : Rule → ℕ
 number_of RepeatedName = 50
 number_of UnknownRef = 51
@@ -44,7 +44,7 @@ is_child d c = is_none c.coll && list_any (λ k. bytes_eq k.name c.name) d.child
 abbrev pub is_collection : Decl → List ℕ → Bool
 is_collection d name = list_any (λ k. bytes_eq k.name name) d.collections
 
--- whether a child or a collection has the name that an offer is to
+-- whether a child or a collection has this name, so that an offer may be to it
 abbrev pub is_target : Decl → List ℕ → Bool
 is_target d name = list_any (λ k. bytes_eq k.name name) d.children || is_collection d name
 
@@ -52,27 +52,27 @@ is_target d name = list_any (λ k. bytes_eq k.name name) d.children || is_collec
 abbrev pub is_capability : Decl → Kind → List ℕ → Bool
 is_capability d kind name = list_any (λ c. same_kind c.kind kind && bytes_eq c.name name) d.capabilities
 
--- a source that is a child which isn't there; there tells which children are
+-- whether a source is a child that isn't there; `there` tells which children are
 abbrev pub is_unknown : (ChildName → Bool) → Origin → Bool
 is_unknown there (Child c) = not (there c)
 is_unknown there _ = false
 
--- from self without such a capability, or a directory from framework
+-- whether a source doesn't have this: the component itself doesn't provide it, or it is a directory of
+-- the framework
 abbrev pub is_undeclared : Decl → Kind → Origin → List ℕ → Bool
 is_undeclared d kind Own name = not (is_capability d kind name)
 is_undeclared d kind Framework name = same_kind kind Directory
 is_undeclared d kind _ name = false
 
--- from the very child that it is to
+-- whether something is offered to the very child that it comes from
 abbrev pub is_given_back : Origin → List ℕ → Bool
 is_given_back (Child c) to = is_none c.coll && bytes_eq c.name to
 is_given_back _ to = false
 
--- from void, although it has to be there
+-- whether something is given from void although it has to be there
 abbrev pub is_required_void : Give → Bool
 is_required_void g = elim g.from as (λ _. Bool) [ Void ↦ not (allows_void g.availability) | _ ↦ false ]
 
--- whether the first path goes on behind the second one with a slash, so that the parts of the
--- second are a proper prefix of its own
+-- whether the first path lies inside the second: it goes on after it with a slash
 abbrev pub is_inside : List ℕ → List ℕ → Bool
 is_inside path outer = starts_with nat_eq path (outer ++ 47 ∷ [])

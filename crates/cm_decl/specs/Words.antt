@@ -9,12 +9,13 @@ use Rattle.cm_decl.specs.declared.section.Section.TheVariants as section
 use Rattle.cm_decl.specs.declared.node.Node.{Node}
 use Rattle.cm_decl.specs.declared.node.Node.TheVariants.{Own, Child}
 
--- the word of a manifest
+-- the word for a kind, as manifests and commands write it
 abbrev pub kind_word : Kind → List ℕ
 kind_word Protocol = codes "protocol"
 kind_word Directory = codes "directory"
 
--- the word of a manifest, and two of its own for the whole and for the realm graph
+-- the word for a section, as faults tell it; the whole manifest and the realm graph have words of
+-- their own
 abbrev pub section_word : Section → List ℕ
 section_word section.Manifest = codes "manifest"
 section_word section.Program = codes "program"
@@ -27,7 +28,7 @@ section_word section.Exposes = codes "expose"
 section_word section.Environments = codes "environments"
 section_word section.Graph = codes "graph"
 
--- `self`, or the name of the child
+-- how a node is written: `self`, or the name of the child
 abbrev pub node_text : Node → List ℕ
 node_text Own = codes "self"
 node_text (Child name) = child_text name

@@ -44,6 +44,7 @@ pub struct Decl {
 }
 
 impl Drop for Decl {
+    /// Called where the value goes: gives back the memory of its parts.
     fn drop(self) {
         let Decl {
             runner: _,
@@ -67,6 +68,7 @@ impl Clone for Decl {
 
     ghost is_clone = { λ a b. b ≡ a };
 
+    /// A copy, which contracts see as the same value. `Err` comes where memory runs out.
     fn clone(&self) -> Result<Decl, AllocError> {
         let parts = four(
             &self.runner,

@@ -18,6 +18,7 @@ pub struct Registration {
 }
 
 impl Drop for Registration {
+    /// Called where the value goes: gives back the memory of its parts.
     fn drop(self) {
         let Registration {
             name: _,
@@ -32,6 +33,7 @@ impl Clone for Registration {
 
     ghost is_clone = { λ a b. b ≡ a };
 
+    /// A copy, which contracts see as the same value. `Err` comes where memory runs out.
     fn clone(&self) -> Result<Registration, AllocError> {
         let (name, from, target) = three(&self.name, &self.from, &self.target)?;
         Ok(Registration { name, from, target })
@@ -57,6 +59,7 @@ pub struct Environment {
 }
 
 impl Drop for Environment {
+    /// Called where the value goes: gives back the memory of its parts.
     fn drop(self) {
         let Environment {
             name: _,
@@ -72,6 +75,7 @@ impl Clone for Environment {
 
     ghost is_clone = { λ a b. b ≡ a };
 
+    /// A copy, which contracts see as the same value. `Err` comes where memory runs out.
     fn clone(&self) -> Result<Environment, AllocError> {
         let (name, runners, debug) = three(&self.name, &self.runners, &self.debug)?;
         Ok(Environment {
@@ -98,6 +102,7 @@ pub struct DebugUse {
 }
 
 impl Drop for DebugUse {
+    /// Called where the value goes: gives back the memory of its parts.
     fn drop(self) {
         let DebugUse { name: _, path: _ } = self;
     }

@@ -27,6 +27,7 @@ impl fmt::Display for Kind {
 
     ghost output = { λ kind. Some (kind_word kind) };
 
+    /// Writes the manifest's word for the kind.
     fn fmt<W: fmt::Write>(&self, f: &mut fmt::Formatter<W>) -> fmt::Result {
         match self {
             Kind::Protocol => f.write_str("protocol"),

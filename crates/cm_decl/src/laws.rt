@@ -44,7 +44,7 @@ pub fn orders_no_cycle()
         → IsTopologicalOrder (realm d dynamic) order → NoCycle (Directly (realm d dynamic)) }
 {}
 
-/// One declaration for each fault that a row can have: an undeclared name, a clash with an
+/// For each fault that a row can have, a declaration that has it: an undeclared name, a clash with an
 /// earlier row and so on. Where two faults stand, the first is the declaration's.
 pub fn has_each_fault()
     ensures repeated_name { IsDeclFault named_as_child

@@ -23,6 +23,7 @@ pub struct DynChild {
 }
 
 impl Drop for DynChild {
+    /// Called where the value goes: gives back the memory of its parts.
     fn drop(self) {
         let DynChild { name: _, gives: _ } = self;
     }
@@ -50,6 +51,7 @@ pub enum Node {
 }
 
 impl Drop for Node {
+    /// Called where the value goes: gives back the memory of its parts.
     fn drop(self) {
         match self {
             Node::Own => {}
@@ -70,6 +72,7 @@ impl fmt::Display for Node {
 
     ghost output = { λ node. Some (node_text node) };
 
+    /// Writes `self`, or the child's name as monikers have it.
     fn fmt<W: fmt::Write>(&self, f: &mut fmt::Formatter<W>) -> fmt::Result {
         match self {
             Node::Own => f.write_str("self"),
@@ -89,6 +92,7 @@ impl PartialEq for Node {
 
     ghost laws = { partial_equiv_from_equiv (eq_by_cmp_equiv node_cmp_total) };
 
+    /// Equal exactly where the order says so.
     fn eq(&self, other: &Node) -> bool {
         self.cmp(other) == Ordering::Equal
     }
@@ -111,6 +115,7 @@ impl PartialOrd for Node {
 
     ghost laws = { partial_order_from_total node_cmp_total };
 
+    /// The order is total, so there always is an answer.
     fn partial_cmp(&self, other: &Node) -> Option<Ordering> {
         Some(self.cmp(other))
     }
@@ -129,6 +134,8 @@ impl Ord for Node {
 
     ghost matches_eq = { λ x y. refl };
 
+    /// The order in which nodes stand in reports: the component itself, then its children by their
+    /// texts.
     fn cmp(&self, other: &Node) -> Ordering {
         match (self, other) {
             (Node::Own, Node::Own) => Ordering::Equal,

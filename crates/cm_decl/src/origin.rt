@@ -21,6 +21,7 @@ pub enum Origin {
 }
 
 impl Drop for Origin {
+    /// Called where the value goes: gives back the memory of its parts.
     fn drop(self) {
         match self {
             Origin::Child(_) => {}

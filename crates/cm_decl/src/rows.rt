@@ -23,6 +23,7 @@ pub struct Child {
 }
 
 impl Drop for Child {
+    /// Called where the value goes: gives back the memory of its parts.
     fn drop(self) {
         let Child {
             name: _,
@@ -38,6 +39,7 @@ impl Clone for Child {
 
     ghost is_clone = { λ a b. b ≡ a };
 
+    /// A copy, which contracts see as the same value. `Err` comes where memory runs out.
     fn clone(&self) -> Result<Child, AllocError> {
         let (name, url, environment) = three(&self.name, &self.url, &self.environment)?;
         Ok(Child {
@@ -83,6 +85,7 @@ pub struct Collection {
 }
 
 impl Drop for Collection {
+    /// Called where the value goes: gives back the memory of its parts.
     fn drop(self) {
         let Collection {
             name: _,
@@ -98,6 +101,7 @@ impl Clone for Collection {
 
     ghost is_clone = { λ a b. b ≡ a };
 
+    /// A copy, which contracts see as the same value. `Err` comes where memory runs out.
     fn clone(&self) -> Result<Collection, AllocError> {
         let (name, environment) = two(&self.name, &self.environment)?;
         Ok(Collection {
@@ -127,6 +131,7 @@ pub struct Capability {
 }
 
 impl Drop for Capability {
+    /// Called where the value goes: gives back the memory of its parts.
     fn drop(self) {
         let Capability {
             kind: _,
@@ -142,6 +147,7 @@ impl Clone for Capability {
 
     ghost is_clone = { λ a b. b ≡ a };
 
+    /// A copy, which contracts see as the same value. `Err` comes where memory runs out.
     fn clone(&self) -> Result<Capability, AllocError> {
         let (name, path) = two(&self.name, &self.path)?;
         Ok(Capability {
@@ -179,6 +185,7 @@ pub struct Usage {
 }
 
 impl Drop for Usage {
+    /// Called where the value goes: gives back the memory of its parts.
     fn drop(self) {
         let Usage {
             kind: _,
@@ -198,6 +205,7 @@ impl Clone for Usage {
 
     ghost is_clone = { λ a b. b ≡ a };
 
+    /// A copy, which contracts see as the same value. `Err` comes where memory runs out.
     fn clone(&self) -> Result<Usage, AllocError> {
         let (name, from, path, subdir) = four(&self.name, &self.from, &self.path, &self.subdir)?;
         Ok(Usage {
@@ -241,6 +249,7 @@ pub struct Give {
 }
 
 impl Drop for Give {
+    /// Called where the value goes: gives back the memory of its parts.
     fn drop(self) {
         let Give {
             kind: _,
@@ -260,6 +269,7 @@ impl Clone for Give {
 
     ghost is_clone = { λ a b. b ≡ a };
 
+    /// A copy, which contracts see as the same value. `Err` comes where memory runs out.
     fn clone(&self) -> Result<Give, AllocError> {
         let (source_name, from, target_name, subdir) = four(
             &self.source_name,
@@ -295,6 +305,7 @@ pub struct Offer {
 }
 
 impl Drop for Offer {
+    /// Called where the value goes: gives back the memory of its parts.
     fn drop(self) {
         let Offer { to: _, give: _ } = self;
     }

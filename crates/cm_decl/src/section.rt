@@ -44,6 +44,7 @@ impl fmt::Display for Section {
 
     ghost output = { λ section. Some (section_word section) };
 
+    /// Writes the word by which faults tell the section.
     fn fmt<W: fmt::Write>(&self, f: &mut fmt::Formatter<W>) -> fmt::Result {
         match self {
             Section::Manifest => f.write_str("manifest"),

@@ -23,6 +23,7 @@ pub struct Storage {
 }
 
 impl Drop for Storage {
+    /// Called where the value goes: gives back the memory of its parts.
     fn drop(self) {
         let Storage {
             name: _,
@@ -39,6 +40,7 @@ impl Clone for Storage {
 
     ghost is_clone = { λ a b. b ≡ a };
 
+    /// A copy, which contracts see as the same value. `Err` comes where memory runs out.
     fn clone(&self) -> Result<Storage, AllocError> {
         let (name, from, backing, subdir) = four(
             &self.name,
@@ -70,6 +72,7 @@ pub struct StorageUse {
 }
 
 impl Drop for StorageUse {
+    /// Called where the value goes: gives back the memory of its parts.
     fn drop(self) {
         let StorageUse { name: _, path: _ } = self;
     }
@@ -95,6 +98,7 @@ pub struct StorageOffer {
 }
 
 impl Drop for StorageOffer {
+    /// Called where the value goes: gives back the memory of its parts.
     fn drop(self) {
         let StorageOffer {
             to: _,
@@ -110,6 +114,7 @@ impl Clone for StorageOffer {
 
     ghost is_clone = { λ a b. b ≡ a };
 
+    /// A copy, which contracts see as the same value. `Err` comes where memory runs out.
     fn clone(&self) -> Result<StorageOffer, AllocError> {
         let (to, source_name, from, target_name) = four(
             &self.to,

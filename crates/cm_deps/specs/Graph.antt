@@ -1,5 +1,6 @@
 -- Inside.
--- Graphs that answer for a declaration.
+-- The graph of a declaration that is kept to answer questions on it: who depends on whom, and in which
+-- order.
 use Rattle.std.specs.Prelude.{ℕ, ◌<◌, List, length, IsTrue, ◌↔◌}
 use Rattle.cm_decl.specs.declared.decl.Decl.{Decl}
 use Rattle.cm_decl.specs.declared.node.DynChild.{DynChild}
@@ -18,7 +19,7 @@ IsReachability d dynamic nodes reached =
     (i j : ℕ) → i < length nodes → j < length nodes →
     IsTrue (holds (row reached i) j) ↔ DependsOn d dynamic (at nodes i) (at nodes j)
 
--- the graph of a declaration and of these children of its collections
+-- what is kept is the graph of this declaration with these children of its collections
 pub record IsGraphOf (d : Decl) (dynamic : List DynChild) (graph : Graph) : Type 0 where
   pub nodes : IsNodes (is_node d dynamic) graph.nodes.items
   pub offered : IsOffered graph.nodes.items d.offers graph.offered

@@ -1,5 +1,5 @@
 -- Inside.
--- What a realm graph comes to.
+-- What checking a realm graph for cycles comes to.
 use Rattle.std.specs.Prelude.{List}
 use Rattle.cm_decl.specs.declared.decl.Decl.{Decl}
 use Rattle.cm_decl.specs.declared.node.DynChild.{DynChild}
@@ -9,7 +9,7 @@ use Rattle.cm_decl.specs.Cycle.{IsPickedCycle}
 use Rattle.cm_deps.specs.declared.outcome.Order.{Order}
 use Rattle.cm_deps.specs.declared.outcome.Order.TheVariants.{Ordered, Cycle}
 
--- an order of the realm graph, its implied edges included, or the picked cycle of its strong edges
+-- an order of the realm graph, implied edges included; or the cycle of strong edges that is told
 abbrev pub IsOutcome : Decl → List DynChild → Order → Type 0
 IsOutcome d dynamic (Ordered order) = IsTopologicalOrder (realm d dynamic) order
 IsOutcome d dynamic (Cycle cycle) = IsPickedCycle (is_strong_edge d dynamic) cycle

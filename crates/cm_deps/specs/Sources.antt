@@ -17,31 +17,32 @@ use Rattle.cm_decl.specs.Graph.{is_strong, is_from_node, sources_of}
 use Rattle.cm_deps.specs.Edges.{holds, row}
 use Rattle.cm_deps.specs.Nodes.{at}
 
--- the sources of what is given strongly
+-- the sources of these gives, as far as they are strong
 abbrev pub strong_sources : List Give → List Origin
 strong_sources gives = map (λ g. g.from) (filter (λ g. is_strong g.dependency) gives)
 
--- what is offered to a child or a collection of this name
+-- what these offers give to the child or collection of this name
 abbrev pub offers_of : List Offer → List ℕ → List Give
 offers_of offers name = map (λ o. o.give) (filter (λ o. bytes_eq o.to name) offers)
 
--- whether this is the number of a node that is one of the sources
+-- whether j is the number of a node that one of the sources stands for
 abbrev pub is_source : List Node → List Origin → ℕ → Bool
 is_source nodes sources j = nat_lt j (length nodes) && list_any (is_from_node (at nodes j)) sources
 
--- a list of the numbers of the sources that are nodes
+-- a list of exactly the numbers of the nodes that these sources stand for
 abbrev pub Lists : List Node → List Origin → List ℕ → Type 0
 Lists nodes sources numbers = (j : ℕ) → holds numbers j ≡ is_source nodes sources j
 
--- numbers were put into a list: those of the sources that are nodes
+-- the numbers of the nodes that these sources stand for were added to a list
 abbrev pub ListsMore : List Node → List Origin → List ℕ → List ℕ → Type 0
 ListsMore nodes sources old new = (j : ℕ) → holds new j ≡ (holds old j || is_source nodes sources j)
 
--- the numbers that a map has at a name
+-- the numbers that a map has for a name; none where it has no entry
 abbrev pub numbers_at : BTreeMap (List ℕ) (List ℕ) → List ℕ → List ℕ
 numbers_at numbers name = unwrap_or (get (slice_cmp nat_cmp) numbers name) []
 
--- at each name the numbers of the sources of the strong offers to it
+-- for each name, the numbers of the nodes that a child or collection of that name is strongly offered
+-- something from
 abbrev pub IsOffered : List Node → List Offer → BTreeMap (List ℕ) (List ℕ) → Type 0
 IsOffered nodes offers numbers =
     (name : List ℕ) → Lists nodes (strong_sources (offers_of offers name)) (numbers_at numbers name)

@@ -31,7 +31,7 @@ fn dependents(alloc: Global, after: &[List<usize>]) -> Result<Vec<List<usize>>, 
     Ok(before)
 }
 
-/// As many empty lists.
+/// As many empty lists, one for each node, to which edges are added. `Err` comes where memory runs out.
 fn empty_rows(alloc: Global, count: usize) -> Result<Vec<List<usize>>, Memory>
     ensures size { IfOk result (λ rows. length rows.items ≡ count) }
     ensures empty { IfOk result (λ rows. (x : ℕ) → row rows.items x ≡ []) }
@@ -60,7 +60,7 @@ fn add_dependent(x: usize, nodes: &[usize], before: &mut Vec<List<usize>>) -> Re
     Ok(())
 }
 
-/// Puts the nodes in an order in which each stands behind all that it depends on, as many as can
+/// Puts the nodes in an order in which each stands after all that it depends on, as many as can
 /// be put so.
 pub fn toposort(alloc: Global, after: &[List<usize>]) -> Result<Vec<usize>, Memory>
     requires { IsBelow after.now (length after.now) }

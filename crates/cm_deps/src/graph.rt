@@ -189,7 +189,7 @@ impl Graph {
         }
     }
 
-    /// The number of a child.
+    /// The number of a child's node, if the graph has it.
     fn child_number(&self, child: &ChildName) -> Option<usize>
         ensures { result ≡ position (λ y. same_node y (Node.Child child.now)) self.now.nodes.items }
     {

@@ -71,7 +71,7 @@ fn with_implied(
     Ok(full)
 }
 
-/// The list of a node, with the first node behind it where the edge to that is implied.
+/// The list of a node, with the first node after it where the edge to that is implied.
 fn implied_row(x: usize, row: &List<usize>, near: bool) -> Result<List<usize>, Memory>
     ensures { IfOk result (λ full. full ≡ row_with x row.now near) }
 {

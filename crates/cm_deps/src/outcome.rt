@@ -21,7 +21,7 @@ pub enum Order {
     Cycle(List<Node>),
 }
 
-/// The node of a number.
+/// A copy of the node with this number. `Err` comes where memory runs out.
 fn node_at(nodes: &[Node], number: usize) -> Result<Node, Memory>
     requires { number < length nodes.now }
     ensures { IfOk result (λ node. node ≡ at nodes.now number) }
@@ -29,7 +29,7 @@ fn node_at(nodes: &[Node], number: usize) -> Result<Node, Memory>
     Ok(nodes[number].clone()?)
 }
 
-/// The nodes of these numbers.
+/// Copies of the nodes with these numbers. `Err` comes where memory runs out.
 pub(crate) fn nodes_at(
     alloc: Global,
     nodes: &[Node],

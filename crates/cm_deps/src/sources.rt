@@ -25,7 +25,7 @@ fn node_of(source: &Origin) -> Result<Option<Node>, Memory>
     }
 }
 
-/// Whether the dependency is strong.
+/// Whether a dependency is strong: the one that depends has to stop first.
 pub(crate) fn is_strong(dependency: Dependency) -> bool
     ensures { result ≡ spec.is_strong dependency }
 {

@@ -8,11 +8,12 @@ use Rattle.cm_world.specs.Create.{dynamic_name}
 use Rattle.cm_dynamic.specs.declared.create.MayCreate.TheVariants.{Yes}
 use Rattle.cm_dynamic.specs.Replies.{TellsRoom, AnswersCreate}
 
--- each number of free rows is the room of some limit
+-- every number of free rows is that of some limit, so the number says enough
 abbrev pub EachRoomIsOfSomeLimit : Type 0
 EachRoomIsOfSomeLimit = (rows : List Row) (free : ℕ) → (limit next : ℕ) × TellsRoom limit rows next free
 
--- the parent of a new child is resolved, and has no child of that name that isn't doomed
+-- the tree can take the row of a new child: the parent is resolved, and has no child of that name that
+-- isn't doomed
 pub record CanTakeChild (rows : List Row) (p : ℕ) (coll name : List ℕ) : Type 0 where
   pub resolved : IsTrue (is_resolved rows p)
   pub unused : child_of rows p (dynamic_name coll name) ≡ None

@@ -1,5 +1,5 @@
 -- Inside.
--- What a new child comes from, directly or through others: looked for from that child alone.
+-- What a new child depends on through children in collections, looked for from the new child alone.
 use Rattle.std.specs.Prelude.{◌≡◌, ℕ, List, Bool, true, not, ◌&&◌, ◌||◌, Some, IsTrue}
 use Rattle.std.specs.Prelude.{◌⊎◌}
 use Rattle.std.specs.List.{list_all}
@@ -15,43 +15,45 @@ use Rattle.cm_world.specs.Rows.{row_of, child_of}
 use Rattle.cm_walk.specs.Ahead.{is_in_set}
 use Rattle.cm_dynamic.specs.Apart.{binds_created}
 
--- whether a name isn't that of the new child, and the set has the child of p that it names, if there is one
+-- whether a child that a name finds is in the set of those seen, and isn't the new one itself
 abbrev pub is_past : List Row → ℕ → ChildName → BTreeSet ℕ → ChildName → Bool
 is_past rows p new seen c = not (same_child c new) && option_map_or (is_in_set seen) (child_of rows p c) true
 
--- the same of a source that is a child
+-- whether a source is no child, or one that is in the set of those seen and isn't the new one
 abbrev pub is_past_from : List Row → ℕ → ChildName → BTreeSet ℕ → Origin → Bool
 is_past_from rows p new seen (origin.Child c) = is_past rows p new seen c
 is_past_from rows p new seen _ = true
 
--- the same of an offer that comes strongly from a child of a collection
+-- whether a give doesn't come strongly from a child in a collection, or comes from one that is in the
+-- set of those seen and isn't the new one
 abbrev pub leads_past : List Row → ℕ → ChildName → BTreeSet ℕ → Give → Bool
 leads_past rows p new seen g =
     not (binds_created g.dependency g.from) || is_past_from rows p new seen g.from
 
--- the same of all that a row was given
+-- all that row i was given comes from elsewhere, or from children in the set of those seen that aren't
+-- the new one
 abbrev pub RowLeadsPast : List Row → ℕ → ChildName → BTreeSet ℕ → ℕ → Type 0
 RowLeadsPast rows p new seen i =
     (r : Row) → row_of rows i ≡ Some r → IsTrue (list_all (leads_past rows p new seen) r.gives)
 
--- a set has all children of collections that a new child comes from, and none of them comes from it
+-- a set has all children in collections on which a new child depends, and none of them depends on it
 pub record ComesFrom (rows : List Row) (p : ℕ) (new : ChildName) (gives : List Give) (seen : BTreeSet ℕ)
     : Type 0 where
   pub own : IsTrue (list_all (leads_past rows p new seen) gives)
   pub each : (i : ℕ) → IsTrue (is_in_set seen i) → RowLeadsPast rows p new seen i
 
--- some set does
+-- some set has them, so the new child closes no cycle
 abbrev pub IsOnward : List Row → ℕ → ChildName → List Give → Type 0
 IsOnward rows p new gives = (seen : BTreeSet ℕ) × ComesFrom rows p new gives seen
 
--- what was seen or lay ahead stays so, and what is seen anew lies ahead
+-- one step of the search: what was seen or lay ahead still does, and what is seen anew lies ahead
 pub record Grows (first left more further : BTreeSet ℕ) : Type 0 where
   pub seen : (i : ℕ) → IsTrue (is_in_set first i) → IsTrue (is_in_set more i)
   pub ahead : (i : ℕ) → IsTrue (is_in_set left i) → IsTrue (is_in_set further i)
   pub fresh : (i : ℕ) → IsTrue (is_in_set more i)
       → IsTrue (is_in_set first i) ⊎ IsTrue (is_in_set further i)
 
--- those seen that don't lie ahead have been looked at
+-- the search so far: what was seen and doesn't lie ahead has been looked at
 pub record IsWalking (rows : List Row) (p : ℕ) (new : ChildName) (gives : List Give)
     (seen ahead : BTreeSet ℕ) : Type 0 where
   pub own : IsTrue (list_all (leads_past rows p new seen) gives)

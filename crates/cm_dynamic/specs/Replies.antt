@@ -1,5 +1,5 @@
 -- Inside.
--- The replies that the answers of this crate stand for.
+-- The replies that the answers of this crate mean.
 use Rattle.std.specs.Prelude.{◌≡◌, ◌≤◌, ◌↔◌, ℕ, List, IsTrue, Option, option_map}
 use Rattle.cm_decl.specs.declared.decl.Decl.{Decl}
 use Rattle.cm_decl.specs.declared.node.DynChild.{DynChild}
@@ -16,7 +16,7 @@ use Rattle.cm_dynamic.specs.declared.destroy.MayDestroy.TheVariants as destroy
 
 -- ---- creating
 
--- the reply to a create that an answer stands for; next is the incarnation that the new child gets
+-- the reply to a create that an answer means; next is the incarnation that the new child gets
 abbrev pub create_reply : ℕ → MayCreate → Reply
 create_reply next create.Yes = reply.Created next
 create_reply next (create.Gone i) = reply.Gone i
@@ -29,29 +29,30 @@ create_reply next (create.BadOffer index number) = reply.BadOffer index number
 create_reply next (create.Cycle nodes) = reply.Cycle nodes
 create_reply next create.Full = reply.Full
 
--- some rows are free exactly where one row more fits in the limit
+-- the number of free rows tells whether one more fits in the limit
 abbrev pub TellsRoom : ℕ → List Row → ℕ → ℕ → Type 0
 TellsRoom limit rows next free = IsTrue (rows_fit limit rows next 1) ↔ (1 ≤ free)
 
--- an answer stands for the reply to a create that the tree gives in every limit whose room is told by free
+-- an answer means the defined reply to a create, in every limit with so many free rows
 abbrev pub AnswersCreate : List Row → ℕ → ℕ → List ℕ → List ℕ → List Give → MayCreate → Type 0
 AnswersCreate rows free p coll name gives answer =
     (limit next : ℕ) → TellsRoom limit rows next free
     → IsCreateReply limit rows next p coll name gives (create_reply next answer)
 
--- the same where the realm graph and the room alone decide
+-- an answer means the defined reply to a create whose names and offers are right, so that only the
+-- realm graph and the room are left to decide
 abbrev pub AnswersGraph : Decl → List DynChild → ℕ → MayCreate → Type 0
 AnswersGraph d dynamic free answer =
     (limit next : ℕ) (rows : List Row) → TellsRoom limit rows next free
     → Creates limit rows next d dynamic (create_reply next answer)
 
--- a refusal is the one of the definition, if there is one
+-- an answer that refuses means the defined refusal, if there is one
 abbrev pub RefusesChange : Option MayCreate → Option Reply → Type 0
 RefusesChange answer refusal = (next : ℕ) → option_map (create_reply next) answer ≡ refusal
 
 -- ---- destroying
 
--- the reply to a mark to be destroyed that an answer stands for
+-- the reply to a mark to be destroyed that an answer means
 abbrev pub destroy_reply : MayDestroy → Reply
 destroy_reply destroy.Yes = reply.Marked
 destroy_reply (destroy.Gone i) = reply.Gone i

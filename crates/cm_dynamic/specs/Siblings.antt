@@ -8,7 +8,7 @@ use Rattle.cm_world.specs.declared.row.Row.{Row}
 use Rattle.cm_world.specs.RowsInside.{is_behind}
 use Rattle.cm_world.specs.Create.{dynamic_of}
 
--- a row of that name, if the name is in a collection and the row isn't doomed
+-- row r, named c, as a child in a collection, if it is one that isn't doomed
 abbrev pub sibling_by : Row → ChildName → Option DynChild
 sibling_by r c = if is_some c.coll && not r.doomed then Some (record { name = c; gives = r.gives }) else None
 
@@ -16,6 +16,6 @@ sibling_by r c = if is_some c.coll && not r.doomed then Some (record { name = c;
 abbrev pub sibling_of : Row → Option DynChild
 sibling_of r = option_and_then (sibling_by r) r.name
 
--- of the children of p in collections those whose incarnation is above the given one
+-- the children of p in collections after the given one that aren't doomed
 abbrev pub siblings_behind : List Row → ℕ → Option ℕ → List DynChild
 siblings_behind rows p after = filter_map (λ r. if is_behind after r.inc then dynamic_of p r else None) rows

@@ -1,5 +1,5 @@
 -- Inside.
--- The faults of environments in a declaration.
+-- What is looked for in the environments of a declaration, rule by rule.
 use Rattle.cm_decl.specs.declared.decl.Decl.{Decl}
 use Rattle.cm_decl.specs.declared.environment.Environment.{Environment}
 use Rattle.cm_decl.specs.Breaks.{passes_at}
@@ -14,7 +14,7 @@ use Rattle.cm_env.specs.First as first
 use Rattle.cm_env.specs.Repeats.{meets_at, repeats_at}
 use Rattle.cm_env.specs.Faults.{is_undeclared_environment, repeats_target, registers_from_nobody}
 
--- each was found at the first row that breaks its rule
+-- for each rule the first row that breaks it was found, or that none does
 pub record EnvFaultsFound (d : Decl) (f : FirstRows) : Type 0 where
   pub repeated : IsFirstAt (repeats_at (λ (e : Environment). e.name) d.environments) f.repeated
   pub in_child : IsFirstAt

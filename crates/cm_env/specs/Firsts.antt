@@ -1,5 +1,5 @@
 -- Inside.
--- Rows by their texts.
+-- A map from texts to rows, by which names are looked up.
 use Rattle.std.specs.Prelude.{◌≡◌, ℕ, List, find}
 use Rattle.std.specs.Option.{option_copied}
 use Rattle.std.specs.HashMap.{HashMap, get_by}

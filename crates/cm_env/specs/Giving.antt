@@ -1,5 +1,5 @@
 -- Inside.
--- What a declaration gives its children.
+-- Which environment a declaration gives each of its children.
 use Rattle.std.specs.Prelude.{◌≡◌, List, Option, Some, None}
 use Rattle.cm_decl.specs.declared.decl.Decl.{Decl}
 use Rattle.cm_decl.specs.declared.environment.Environment.{Environment}
@@ -8,13 +8,14 @@ use Rattle.cm_decl.specs.declared.rows.Collection.{Collection}
 use Rattle.cm_env.specs.declared.giver.GivenEnvironment.{GivenEnvironment}
 use Rattle.cm_env.specs.declared.giver.GivenEnvironment.TheVariants.{Realm, Undeclared, In}
 
--- none is given, or one that isn't declared, or this one
+-- the environment that a child is given: none, so it has its parent's; one that isn't declared; or
+-- this one
 abbrev pub told_given : GivenEnvironment → Option (Option Environment)
 told_given Realm = None
 told_given Undeclared = Some None
 told_given (In e) = Some (Some e.now)
 
--- these are the rows of a declaration
+-- these are the children, collections and environments of a declaration
 pub record HasRows (d : Decl) (ks : List Child) (cs : List Collection) (es : List Environment) : Type 0 where
   pub children : ks ≡ d.children
   pub collections : cs ≡ d.collections

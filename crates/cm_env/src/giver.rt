@@ -34,6 +34,7 @@ pub(crate) struct Giver<'a> {
 }
 
 impl<'a> Drop for Giver<'a> {
+    /// Called where the value goes: gives back the memory of its parts.
     fn drop(self) {
         let Giver {
             decl: _,
@@ -96,7 +97,7 @@ impl<'a> Giver<'a> {
         }
     }
 
-    /// The same of a child of the manifest.
+    /// The name of the environment that a declared child is given, if it is given one.
     fn given_to_child(&self, name: &'a Name) -> Option<&'a Name>
         ensures { let child = find (λ k. bytes_eq k.name name.now) self.now.children in
             option_copied result ≡ option_and_then (λ k. k.environment) child }
@@ -107,7 +108,7 @@ impl<'a> Giver<'a> {
         }
     }
 
-    /// The same of the children in a collection.
+    /// The name of the environment that the children in a collection are given, if they are given one.
     fn given_to_collection(&self, name: &'a Name) -> Option<&'a Name>
         ensures { option_copied result
             ≡ option_and_then (λ k. k.environment) (collection_of self.now name.now) }

@@ -18,6 +18,7 @@ pub(crate) struct Firsts<'a, T: TextKeyed> {
 }
 
 impl<'a, T: TextKeyed> Drop for Firsts<'a, T> {
+    /// Called where the value goes: gives back the memory of its parts.
     fn drop(self) {
         let Firsts { rows: _, firsts: _ } = self;
     }

@@ -42,7 +42,7 @@ pub(crate) fn root<'a, V: View>(view: &'a V) -> Looker<'a>
     Looker { inc: 0, reach }
 }
 
-/// Where the root looks.
+/// Where the root looks: nowhere, or it isn't known where it has a parent.
 fn root_reach<'a, V: View>(view: &'a V) -> Reach<'a>
     ensures { IsReachOf (V.rows view.now) 0 result }
 {
@@ -152,7 +152,8 @@ fn look_in<'a>(
     ParentLook::Nowhere
 }
 
-/// That instance above one, and where it looks, if that is kept where the lower one tells.
+/// The instance `inc` above the lower one, and where it looks, if that is kept where the lower one
+/// tells.
 fn stand_above<'a>(kept: &[Looker<'a>], below: Looker<'a>, inc: u64) -> Looker<'a>
     ensures inc { result.inc ≡ inc }
     ensures reaches { (rows : List Row) → All (LooksThere rows) kept.now → LooksThere rows result }

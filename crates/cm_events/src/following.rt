@@ -14,10 +14,10 @@ use cm_world::{Entry, Event, Happening, Outcome, Reply, Work};
 use std::alloc::Global;
 use std::collections::{HashMap, HashSet};
 
-/// What the entries behind the first `from` of a history tell, in order, of instances at and below
+/// What the entries after the first `from` of a history tell, in order, of instances at and below
 /// a moniker, where no two entries begin the same action. `Err` where memory runs out.
 ///
-/// It is what [`filter`](crate::filter) tells, and costs what the entries behind `from` cost: those
+/// It is what [`filter`](crate::filter) tells, and costs what the entries after `from` cost: those
 /// before are read from the last one towards the prefix, once, and only as far as the earliest entry
 /// that began an action of whose end is told. It keeps nothing of them but those actions' works.
 pub fn follow(
@@ -47,7 +47,7 @@ pub fn follow(
     Ok(made)
 }
 
-/// The actions that the entries behind the first `start` tell the end of and don't begin.
+/// The actions that the entries after the first `start` tell the end of and don't begin.
 fn wanted_behind(alloc: Global, entries: &[Entry], start: usize) -> Result<HashSet<u64>, Memory>
     requires { start ≤ length entries.now }
     ensures { IfOk result (λ wanted. (a : ℕ) → contains nat_eq wanted a

@@ -1,5 +1,5 @@
 -- Inside.
--- Which answers say that a gate failed.
+-- Which answers of gates say that the gate failed. A gate asks a resolver or a runner of the outside.
 use Rattle.std.specs.Prelude.{Bool, true, false}
 use Rattle.cm_gate.specs.declared.asked.GateCall.{GateCall}
 use Rattle.cm_gate.specs.declared.asked.GateCall.TheVariants as asked
@@ -10,20 +10,20 @@ use Rattle.cm_gate.specs.declared.asked.Launched.TheVariants as launched
 use Rattle.cm_gate.specs.declared.asked.Halted.{Halted}
 use Rattle.cm_gate.specs.declared.asked.Halted.TheVariants as halted
 
--- whether a resolver failed
+-- whether a fetch of a manifest failed
 abbrev pub is_failed_fetch : Fetched → Bool
 is_failed_fetch fetched.Failed = true
 is_failed_fetch (fetched.Found bytes) = false
 is_failed_fetch fetched.Absent = false
 is_failed_fetch fetched.Memory = false
 
--- whether a runner failed to start a program
+-- whether the launch of a program failed
 abbrev pub is_failed_launch : Launched → Bool
 is_failed_launch launched.Failed = true
 is_failed_launch launched.Running = false
 is_failed_launch launched.Declined = false
 
--- whether a runner failed to stop a program
+-- whether the halt of a program failed
 abbrev pub is_failed_halt : Halted → Bool
 is_failed_halt halted.Failed = true
 is_failed_halt halted.Stopped = false

@@ -1,9 +1,9 @@
 -- Inside.
--- Meeting gates, as contracts see them.
+-- Gates that let callers meet, which tests use, as contracts see them.
 use Rattle.std.specs.Prelude.{ℕ, List}
 use Rattle.cm_gate.specs.declared.manifests.Manifest.{Manifest}
 
--- what one caller's gates know, and how often they failed; of the shared words nothing is known
+-- what one caller's gates have, and how often they failed; what callers share isn't told
 pub record MeetingView : Type 0 where
   pub manifests : List Manifest
   pub faults : ℕ

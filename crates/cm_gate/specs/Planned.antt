@@ -1,5 +1,5 @@
 -- Inside.
--- Planned gates, as contracts see them.
+-- Gates that answer by a plan, which tests use, as contracts see them.
 use Rattle.std.specs.Prelude.{not, ◌≡◌, ◌⊎◌, ℕ, cond, nat_le, nat_eq, Bool, true, false}
 use Rattle.std.specs.Prelude.{List, [], ◌∷◌, ◌++◌, length, Option, Some, None}
 use Rattle.std.specs.List.{list_any}
@@ -21,7 +21,7 @@ use Rattle.cm_gate.specs.declared.planned.Unnoted.TheVariants as unnoted
 use Rattle.cm_gate.specs.Failures.{is_failure}
 use Rattle.cm_gate.specs.Manifests.{manifest_at}
 
--- planned gates between two calls
+-- planned gates between two calls: the plan, the log, and what was counted
 pub record GatePlanAtWork : Type 0 where
   pub plan : GatePlan
   -- the questions that were noted, with their answers
@@ -34,7 +34,7 @@ pub record GatePlanAtWork : Type 0 where
   -- for how many of them memory was too short to be noted
   pub short : ℕ
 
--- gates by a plan, before the first call
+-- planned gates before the first call
 abbrev pub not_yet_asked : GatePlan → GatePlanAtWork
 not_yet_asked plan = record { plan = plan; noted = []; told = true; calls = 0; faults = 0; short = 0 }
 
@@ -46,7 +46,7 @@ is_among url urls = list_any (λ other. bytes_eq other url) urls
 abbrev pub fails_next : GatePlanAtWork → Bool
 fails_next g = list_any (λ call. nat_eq call g.calls) g.plan.failing
 
--- whether the log has no room for one question more
+-- whether the log has no room for one more call
 abbrev pub is_full : GatePlanAtWork → Bool
 is_full g = nat_le g.plan.room (length g.noted)
 
@@ -68,39 +68,38 @@ planned_halt g = cond (fails_next g) halted.Failed halted.Stopped
 abbrev pub told_log : GatePlanAtWork → Option (List GateCall)
 told_log g = cond g.told (Some g.noted) None
 
--- why a question isn't noted: the log is full; or it isn't, and memory ran out
+-- why a call isn't noted in the log: it is full; or it isn't, and memory ran out
 abbrev pub Causes : Bool → Unnoted → Type 0
 Causes full unnoted.NoRoom = full ≡ true
 Causes full unnoted.Memory = full ≡ false
 
--- a question went into the log with its answer, where there was room
+-- the call was noted in the log, where there was room
 abbrev pub Notes : GatePlanAtWork → GatePlanAtWork → GateCall → Type 0
 Notes old new question = (is_full old ≡ false) × (new ≡ record old { noted = old.noted ++ question ∷ [] })
 
--- one call more is counted, and its failure is
+-- the gates with one more call counted, and its failure
 abbrev pub counted : Bool → GatePlanAtWork → GatePlanAtWork
 counted failed g = record g { calls = one_more g.calls; faults = count_after failed g.faults }
 
--- the answer of a call whose question isn't noted: it fails for a full log, and else for lack of memory,
--- which a fetch tells as such and a launch or a halt as a failure
+-- the answer of a call that isn't noted: a failure where the log is full; else lack of memory, which a
+-- launch and a halt tell as a failure
 abbrev pub IsUnnoted : Bool → GateCall → Type 0
 IsUnnoted full (asked.Fetch what answer) =
     ((full ≡ true) × (answer ≡ fetched.Failed)) ⊎ ((full ≡ false) × (answer ≡ fetched.Memory))
 IsUnnoted full (asked.Launch job answer) = answer ≡ launched.Failed
 IsUnnoted full (asked.Halt job answer) = answer ≡ halted.Failed
 
--- a call isn't noted, and so the log isn't told any more; it is counted where that is for lack of memory
+-- the call isn't noted, so the log isn't told any more; lack of memory is counted
 abbrev pub Loses : GatePlanAtWork → GatePlanAtWork → GateCall → Type 0
 Loses old new question =
     IsUnnoted (is_full old) question
     × (new ≡ record old { told = false; short = count_after (not (is_full old)) old.short })
 
--- the log is told as before, unless it was full, or memory was short, which was counted
+-- the log is told as before, unless it was full or memory ran out
 abbrev pub StaysTold : GatePlanAtWork → GatePlanAtWork → Type 0
 StaysTold old new = (new.told ≡ old.told) ⊎ ((is_full old ≡ true) ⊎ Rose old.short new.short)
 
--- what a call leaves: it is counted, and its question stands in the log with its answer, or the log isn't
--- told any more
+-- what a call leaves: it is counted, and noted in the log, or the log isn't told any more
 abbrev pub LeavesGates : GatePlanAtWork → GatePlanAtWork → GateCall → Type 0
 LeavesGates old new question =
     let called = counted (is_failure question) old in Notes called new question ⊎ Loses called new question

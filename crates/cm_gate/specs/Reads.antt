@@ -1,5 +1,5 @@
 -- Inside.
--- What a folder's file gave when it was opened and read.
+-- What was read of a folder's files, as manifests are fetched.
 use Rattle.std.specs.Prelude.{◌≡◌, ◌⊎◌, ℕ, List, take, Option, Some, None}
 use Rattle.std.specs.declared.io.ErrorKind.{ErrorKind}
 use Rattle.std.specs.declared.io.ErrorKind.TheVariants.{NotFound, NotADirectory}
@@ -8,31 +8,31 @@ use Rattle.cm_gate.specs.declared.asked.Fetch.{Fetch}
 use Rattle.cm_gate.specs.declared.asked.Fetched.{Fetched}
 use Rattle.cm_gate.specs.declared.asked.Fetched.TheVariants as fetched
 
--- these are the bytes that were left, or the first ones up to a limit; it says nothing where it isn't known
--- what was left
+-- these are the bytes that were left, up to a limit; nothing is said where it isn't known what was
+-- left
 abbrev pub IsPrefix : ℕ → Option (List ℕ) → List ℕ → Type 0
 IsPrefix limit None bytes = Unit {0}
 IsPrefix limit (Some left) bytes = bytes ≡ take limit left
 
--- what was found in an open file is what was read of it, and it isn't told that there is no such file
+-- what a fetch found in an open file: what was read of it, or a failure, but never that there is none
 abbrev pub FindsIn : {File : Type 0} → (File → Option (List ℕ)) → File → Fetched → Type 0
 FindsIn left file (fetched.Found bytes) = IsPrefix 1048577 (left file) bytes
 FindsIn left file fetched.Absent = ⊥
 FindsIn left file fetched.Failed = Unit {0}
 FindsIn left file fetched.Memory = Unit {0}
 
--- these bytes are the prefix of a file that was opened at a place of a folder
+-- a file was opened at this place of the folder, and these bytes were read of it
 pub record IsReadAt {F File : Type 0} (opened : F → List ℕ → File → Type 0)
     (left : File → Option (List ℕ)) (folder : F) (place bytes : List ℕ) : Type 0 where
   pub file : File
   pub opens : opened folder place file
   pub prefix : IsPrefix 1048577 (left file) bytes
 
--- there is no such file, or a file stands where a folder should
+-- the error says that there is no such file
 abbrev pub IsMissing : ErrorKind → Type 0
 IsMissing kind = (kind ≡ NotFound) ⊎ (kind ≡ NotADirectory)
 
--- no file was opened at a place of a folder, since there is none
+-- no file could be opened at this place of the folder, since there is none
 pub record IsMissedAt {F : Type 0} (refused : F → List ℕ → ErrorKind → Type 0) (folder : F) (place : List ℕ)
     : Type 0 where
   pub kind : ErrorKind
@@ -45,8 +45,7 @@ pub record AtPlaceOf (what : Fetch) (There : List ℕ → Type 0) : Type 0 where
   pub looks : place_of_fetch what ≡ Some place
   pub there : There place
 
--- what was found at a place of a folder is what was read of the file that was opened there, and nothing is
--- there only where the opening told so
+-- what a fetch found at a place of a folder: what was read there, that there is no file, or a failure
 abbrev pub FindsAt : {F File : Type 0} → (F → List ℕ → File → Type 0) → (F → List ℕ → ErrorKind → Type 0) →
     (File → Option (List ℕ)) → F → List ℕ → Fetched → Type 0
 FindsAt opened refused left folder place (fetched.Found bytes) = IsReadAt opened left folder place bytes
@@ -54,7 +53,8 @@ FindsAt opened refused left folder place fetched.Absent = IsMissedAt refused fol
 FindsAt opened refused left folder place fetched.Failed = Unit {0}
 FindsAt opened refused left folder place fetched.Memory = Unit {0}
 
--- so it is at the place of a fetch; nothing is there, too, where it has no place
+-- what a fetch found in a folder: the same at the place of its URL; there is nothing where the URL has
+-- no place
 abbrev pub FindsFile : {F File : Type 0} → (F → List ℕ → File → Type 0) → (F → List ℕ → ErrorKind → Type 0) →
     (File → Option (List ℕ)) → F → Fetch → Fetched → Type 0
 FindsFile opened refused left folder what (fetched.Found bytes) =

@@ -29,7 +29,7 @@ pub enum Fetched {
 }
 
 impl Fetched {
-    /// Whether the resolver failed.
+    /// Whether the resolver failed; that there is no manifest is no failure.
     pub fn is_failed(&self) -> bool
         ensures { result ≡ is_failed_fetch self.now }
     {
@@ -64,7 +64,7 @@ pub enum Launched {
 }
 
 impl Launched {
-    /// Whether the runner failed.
+    /// Whether the runner failed; that it declined the program is no failure.
     pub fn is_failed(self) -> bool
         ensures { result ≡ is_failed_launch self }
     {
@@ -82,7 +82,7 @@ pub enum Halted {
 }
 
 impl Halted {
-    /// Whether the runner failed.
+    /// Whether the runner failed, so that the stop counts as one by force.
     pub fn is_failed(self) -> bool
         ensures { result ≡ is_failed_halt self }
     {

@@ -20,14 +20,14 @@ impl Model for FaultCount {
 }
 
 impl FaultCount {
-    /// No fault yet.
+    /// A count of no faults.
     pub(crate) fn new() -> FaultCount
         ensures { result ≡ 0 }
     {
         FaultCount { count: 0 }
     }
 
-    /// The count.
+    /// How many calls have failed.
     pub(crate) fn get(&self) -> u64
         ensures { result ≡ self.now }
     {

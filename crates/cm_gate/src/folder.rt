@@ -64,7 +64,7 @@ impl<F: Files + Drop> FolderGates<F> {
     }
 }
 
-/// What a fetch finds.
+/// What a fetch finds, as [`FolderGates`] says.
 fn find_file<F: Folder>(files: &F, alloc: Global, what: &Fetch) -> Fetched
     ensures finds { FindsFile F.opened F.refused F.File.remaining files.now what.now result }
     ensures no_repo { what.now.repo ≡ None → result ≡ Fetched.Absent }
@@ -82,7 +82,7 @@ fn find_file<F: Folder>(files: &F, alloc: Global, what: &Fetch) -> Fetched
     }
 }
 
-/// What a launch comes to.
+/// What a launch comes to: the runner's answer, or that the program runs where there is no runner.
 fn launch_by<N: Network>(runner: &Option<Runner>, net: &N, job: &Job) -> Launched
     ensures recorded { runner.now ≡ None → result ≡ Launched.Running }
     ensures asks { IfSome runner.now (λ place. result ≢ Launched.Failed → AsksLaunch
@@ -94,7 +94,7 @@ fn launch_by<N: Network>(runner: &Option<Runner>, net: &N, job: &Job) -> Launche
     }
 }
 
-/// What a halt comes to.
+/// What a halt comes to: the runner's answer, or that the program has stopped where there is no runner.
 fn halt_by<N: Network>(runner: &Option<Runner>, net: &N, job: &Job) -> Halted
     ensures recorded { runner.now ≡ None → result ≡ Halted.Stopped }
     ensures asks { IfSome runner.now (λ place. result ≢ Halted.Failed → AsksHalt

@@ -121,6 +121,8 @@ impl Gates for MeetingGates {
 
     ghost quiet = { λ _. ⊥ };
 
+    /// Meets the other gates of the pair, and then gives the manifest under the URL. It fails, which is
+    /// counted, where the other never comes.
     fn fetch<R: Threads + Wait + Sync>(
         &mut self,
         _rt: &R,
@@ -142,6 +144,7 @@ impl Gates for MeetingGates {
         answer
     }
 
+    /// Every program is said to run.
     fn launch<R: Threads + Wait + Sync>(
         &mut self,
         _rt: &R,
@@ -156,6 +159,7 @@ impl Gates for MeetingGates {
         Launched::Running
     }
 
+    /// Every program is said to have stopped.
     fn halt<R: Threads + Wait + Sync>(
         &mut self,
         _rt: &R,

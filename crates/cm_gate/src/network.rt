@@ -58,10 +58,12 @@ impl Connection for UnixStream {
 
     ghost gave = { λ _ _ _. ⊤ };
 
+    /// Writes all of the bytes; the error is the socket's.
     fn send(&mut self, bytes: &[u8]) -> io::Result<()> {
         self.write_all(bytes)
     }
 
+    /// Reads into the buffer, and tells how many bytes came; 0 is the end.
     fn receive(&mut self, into: &mut [u8]) -> io::Result<usize> {
         read_through(self, into)
     }
@@ -70,10 +72,13 @@ impl Connection for UnixStream {
 impl<N: Net> Network for N {
     ghost use Rattle.std.specs.Prelude.{⊤};
 
+    /// A connection is a Unix socket.
     type Connection = UnixStream;
 
     ghost connected = { λ _ _ _. ⊤ };
 
+    /// Connects to the socket file at the path. Reads and writes on it fail after a fixed time without
+    /// an answer.
     fn connect_to(&self, place: &str) -> io::Result<UnixStream> {
         let stream = UnixStream::connect(self, place)?;
         stream.set_read_timeout(Some(Duration::from_secs(PATIENCE)))?;

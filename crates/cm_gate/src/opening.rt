@@ -41,12 +41,14 @@ pub trait Folder {
 impl<F: Files> Folder for F {
     ghost use Rattle.std.specs.Prelude.{⊤};
 
+    /// A file of the file system.
     type File = F::File;
 
     ghost opened = { λ _ _ _. ⊤ };
 
     ghost refused = { λ _ _ _. ⊤ };
 
+    /// Opens the file at the path for reading.
     fn open_at(&self, place: &str) -> io::Result<F::File> {
         fs::open(self, place)
     }

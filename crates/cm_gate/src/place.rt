@@ -15,7 +15,7 @@ fn is_plain(part: &str) -> bool
     !part.is_empty() && !(part == "." || part == "..")
 }
 
-/// Whether all that stands between the slashes does.
+/// Whether each part between slashes names a file or a folder of its own.
 fn are_plain(parts: &str) -> bool
     ensures { result ≡ are_plain parts.now }
 {
@@ -32,7 +32,7 @@ fn behind_slash(text: &str) -> &str
     }
 }
 
-/// The file `repo/host/path/fragment`, where all parts behind `repo` are plain.
+/// The file `repo/host/path/fragment`, where all parts after `repo` are plain.
 fn place_in(
     alloc: Global,
     repo: &str,

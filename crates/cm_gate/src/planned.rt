@@ -50,6 +50,7 @@ impl From<AllocError> for Unnoted {
 
     ghost from_gives = { λ _ why. why ≡ OutOfMemory };
 
+    /// For `?` where an allocation fails: memory ran out.
     fn from(_: AllocError) -> Unnoted {
         Unnoted::Memory
     }
@@ -61,6 +62,7 @@ impl From<Memory> for Unnoted {
 
     ghost from_gives = { λ _ why. why ≡ OutOfMemory };
 
+    /// For `?` after a call that lacked memory.
     fn from(_: Memory) -> Unnoted {
         Unnoted::Memory
     }
@@ -139,6 +141,7 @@ impl PlannedGates {
         self.short.get()
     }
 
+    /// Whether the call that comes next is planned to fail.
     fn fails_next(&self) -> bool
         ensures { result ≡ fails_next self.now }
     {
@@ -150,12 +153,15 @@ impl PlannedGates {
             .any(|failing| *failing == call)
     }
 
+    /// Whether the log has no room for one more call.
     fn is_full(&self) -> bool
         ensures { result ≡ is_full self.now }
     {
         self.plan.room <= self.noted.len() as u64
     }
 
+    /// The answer that is planned for a fetch of this URL. `Err` comes where memory runs out for its
+    /// bytes.
     fn planned_fetch(&self, url: &str) -> Result<Fetched, AllocError>
         ensures { IfOk result (λ answer. answer ≡ planned_fetch self.now url.now) }
     {
@@ -165,6 +171,7 @@ impl PlannedGates {
         find_manifest(self.plan.manifests.as_slice(), url)
     }
 
+    /// The answer that is planned for a launch of the component with this URL.
     fn planned_launch(&self, url: &str) -> Launched
         ensures { result ≡ planned_launch self.now url.now }
     {
@@ -177,6 +184,7 @@ impl PlannedGates {
         Launched::Running
     }
 
+    /// The answer that is planned for a halt.
     fn planned_halt(&self) -> Halted
         ensures { result ≡ planned_halt self.now }
     {
@@ -275,6 +283,7 @@ impl Gates for PlannedGates {
 
     ghost quiet = { λ _. ⊥ };
 
+    /// Gives what is planned for the URL, and notes it in the log; where that has no room, it fails.
     fn fetch<R: Threads + Wait + Sync>(
         &mut self,
         _rt: &R,
@@ -310,6 +319,8 @@ impl Gates for PlannedGates {
         }
     }
 
+    /// Gives what is planned for the component, and notes it in the log; where that has no room, it
+    /// fails.
     fn launch<R: Threads + Wait + Sync>(
         &mut self,
         _rt: &R,
@@ -344,6 +355,7 @@ impl Gates for PlannedGates {
         }
     }
 
+    /// Gives what is planned, and notes it in the log; where that has no room, it fails.
     fn halt<R: Threads + Wait + Sync>(
         &mut self,
         _rt: &R,
@@ -379,6 +391,7 @@ impl Gates for PlannedGates {
     }
 }
 
+/// Whether the URL is one of these.
 fn is_among(urls: &[Text], url: &str) -> bool
     ensures { result ≡ is_among url.now urls.now }
 {

@@ -26,6 +26,7 @@ impl Gates for QuietGates {
 
     ghost quiet = { λ _. Unit {0} };
 
+    /// There is no manifest for any URL.
     fn fetch<R: Threads + Wait + Sync>(
         &mut self,
         _rt: &R,
@@ -38,6 +39,7 @@ impl Gates for QuietGates {
         Fetched::Absent
     }
 
+    /// Every program is said to run.
     fn launch<R: Threads + Wait + Sync>(
         &mut self,
         _rt: &R,
@@ -49,6 +51,7 @@ impl Gates for QuietGates {
         Launched::Running
     }
 
+    /// Every program is said to have stopped.
     fn halt<R: Threads + Wait + Sync>(
         &mut self,
         _rt: &R,

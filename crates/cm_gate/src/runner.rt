@@ -111,7 +111,7 @@ impl Runner {
     }
 }
 
-/// The line that asks.
+/// The line that asks a runner: this word, and for which instance. `Err` comes where memory runs out.
 fn question(alloc: Global, word: &str, job: &Job) -> Result<Text, Memory>
     ensures { IfOk result (λ line. line ≡ question_line word.now job.now) }
 {

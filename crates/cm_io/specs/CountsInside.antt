@@ -1,5 +1,5 @@
 -- Inside.
--- Counts that stop at 2^64 - 1.
+-- Counts of faults, by whether a call failed.
 use Rattle.std.specs.Prelude.{ℕ, ◌-◌, Bool, true, false}
 use Rattle.cm_io.specs.Counts.{one_more}
 

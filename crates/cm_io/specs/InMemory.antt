@@ -1,10 +1,10 @@
 -- Inside.
--- Sources and sinks in memory, as contracts see them.
+-- Sources and sinks in memory, which tests use, as contracts see them. Their faults are planned.
 use Rattle.std.specs.Prelude.{ℕ, ◌-◌, max, Bool, List, [], ◌∷◌, length}
 use Rattle.cm_io.specs.Counts.{one_more}
 use Rattle.cm_io.specs.CountsInside.{count_after}
 
--- a plan at work: the number of calls that were made, and of those that failed
+-- a plan of faults between two calls
 pub record FaultPlanAtWork : Type 0 where
   -- the most bytes that one call moves; 0 counts as 1
   pub piece : ℕ
@@ -13,11 +13,11 @@ pub record FaultPlanAtWork : Type 0 where
   pub calls : ℕ
   pub faults : ℕ
 
--- the most bytes that one call moves
+-- the most bytes that one call moves; at least one
 abbrev pub most_of : FaultPlanAtWork → ℕ
 most_of plan = max plan.piece 1
 
--- a plan by which no call was made yet
+-- a plan before the first call
 abbrev pub unused : ℕ → List ℕ → FaultPlanAtWork
 unused piece failing = record { piece = piece; failing = failing; calls = 0; faults = 0 }
 
@@ -25,18 +25,19 @@ unused piece failing = record { piece = piece; failing = failing; calls = 0; fau
 abbrev pub after_call : Bool → FaultPlanAtWork → FaultPlanAtWork
 after_call failed plan = record plan { calls = one_more plan.calls; faults = count_after failed plan.faults }
 
--- a source: the bytes that it gave, and those that are left
+-- a source in memory: the bytes that it gave, and those that are left
 pub record SourceInMemory : Type 0 where
   pub given : List ℕ
   pub left : List ℕ
   pub plan : FaultPlanAtWork
 
--- a sink: the bytes that were written, and for how many bytes in all it holds memory
+-- a sink in memory: the bytes that were written, and for how many bytes in all it has memory
 pub record SinkInMemory : Type 0 where
   pub written : List ℕ
   pub capacity : ℕ
   pub plan : FaultPlanAtWork
 
+-- this room, where no call is planned to fail; else none
 abbrev pub if_quiet : List ℕ → ℕ → ℕ
 if_quiet [] room = room
 if_quiet (call ∷ failing) room = 0

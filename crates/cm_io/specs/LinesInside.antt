@@ -1,5 +1,5 @@
 -- Inside.
--- The lines of bytes, and what a call of a line reader does.
+-- What the line reader does in a call.
 use Rattle.std.specs.Prelude.{◌≡◌, ◌≢◌, ◌⊎◌, ℕ, ◌<◌, ◌≤◌, Bool, true, false, List, [], ◌∷◌}
 use Rattle.std.specs.Prelude.{◌++◌, length, All, Option, Some, None}
 use Rattle.std.specs.Io.KnownBytes.{Appends, Consumes, IsAtEnd, Keeps}
@@ -10,26 +10,25 @@ use Rattle.cm_io.specs.declared.source.Got.{Got}
 use Rattle.cm_io.specs.declared.source.Got.TheVariants as got
 use Rattle.cm_io.specs.Lines.{lines}
 
--- no byte ends a line
+-- no line ends in these bytes
 abbrev pub IsUnbroken : List ℕ → Type 0
 IsUnbroken bytes = All (λ byte. byte ≢ 10) bytes
 
--- a line reader: what it holds of the bytes that its source gave, and whether the source came to
--- its end, behind which it isn't read
+-- a line reader: the bytes that its source gave and that it still holds, and whether the source has
+-- come to its end, after which it isn't read any more
 pub record Reader : Type 0 where
   pub held : List ℕ
   pub over : Bool
 
--- `line` is the first line of `taken`: 0x0A ends it, and then comes what the reader holds; or it is
--- all up to the end, and isn't empty
+-- `line` is the first line of the bytes `taken`, and the reader holds the rest of them
 abbrev pub IsFirstLine : List ℕ → Reader → List ℕ → Type 0
 IsFirstLine taken reader line =
     IsUnbroken line ×
     ((taken ≡ line ++ 10 ∷ reader.held) ⊎
     ((taken ≡ line) × (0 < length line) × (reader.held ≡ []) × (reader.over ≡ true)))
 
--- what a call tells of `taken`, the bytes that the reader held before it and those that the source
--- gave in it, by what the reader is after it
+-- what a call of the reader tells is right for the bytes `taken`: those that it held before and those
+-- that the source gave
 abbrev pub TellsLine : List ℕ → Reader → Next → Type 0
 TellsLine taken reader (next.Line line) = (length line ≤ 65536) × IsFirstLine taken reader line
 TellsLine taken reader next.TooLong = (line : List ℕ) × (65536 < length line) × IsFirstLine taken reader line
@@ -42,7 +41,7 @@ pub record EndsOnce (old new : Reader) (source₀ source₁ : AsSource) (given :
   pub still : old.over ≡ true → (given ≡ []) × (new.over ≡ true) × (source₁ ≡ source₀)
   pub comes : old.over ≡ false → new.over ≡ true → IsAtEnd source₁.left
 
--- what a call takes of the lines of all bytes that were to come, where those are known
+-- what a call takes of the lines of all bytes that were still to come, as far as those are known
 abbrev pub TakesLine : Option (List ℕ) → Option (List ℕ) → Next → Type 0
 TakesLine None new answer = Unit {0}
 TakesLine (Some old) None answer = ⊥
@@ -53,23 +52,23 @@ TakesLine (Some old) (Some new) next.End = (old ≡ []) × (new ≡ [])
 TakesLine (Some old) (Some new) next.ReadFault = Unit {0}
 TakesLine (Some old) (Some new) next.Memory = Unit {0}
 
--- `line` grew by `part`, unless it was too long already
+-- the line grew by this part; once it is too long nothing more is kept
 abbrev pub LineGrows : List ℕ → List ℕ → List ℕ → Type 0
 LineGrows old new part = (length old ≤ 65536 → new ≡ old ++ part) × (65536 < length old → new ≡ old)
 
--- the line grew by what was held up to the next line end, or by all of it where there is none
+-- the line grew by what was held up to the next line feed (true), or by all that was held (false)
 abbrev pub TakesPart : List ℕ → List ℕ → List ℕ → List ℕ → Bool → Type 0
 TakesPart held kept old new true =
     (part : List ℕ) × IsUnbroken part × (held ≡ part ++ 10 ∷ kept) × LineGrows old new part
 TakesPart held kept old new false = IsUnbroken held × (kept ≡ []) × LineGrows old new held
 
--- what a read into an empty reader does to the bytes that the source has left; the reader then holds `held`
+-- what a read into an empty reader takes of the source's bytes; the reader holds them then
 abbrev pub Fills : Option (List ℕ) → Option (List ℕ) → List ℕ → Got → Type 0
 Fills old new held (got.Bytes n) = Consumes old new held
 Fills old new held got.End = (held ≡ []) × Keeps old new × IsAtEnd new
 Fills old new held got.Failed = (held ≡ []) × Keeps old new
 
--- what such a read does to the bytes that the source gave so far
+-- what such a read adds to the bytes that the source gave
 abbrev pub GaveBytes : Option (List ℕ) → Option (List ℕ) → List ℕ → Got → Type 0
 GaveBytes old new held (got.Bytes n) = Appends old new held
 GaveBytes old new held got.End = Keeps old new

@@ -1,5 +1,5 @@
 -- Inside.
--- Links and doors in memory, as contracts see them.
+-- Links and doors in memory, which tests use, as contracts see them.
 use Rattle.std.specs.Prelude.{cond, ◌≡◌, ◌⊎◌, ◌-◌, ◌^◌, ℕ, Bool, true, false}
 use Rattle.std.specs.Prelude.{Contains, List, [], ◌∷◌, Option, Some}
 use Rattle.cm_io.specs.InMemory.{FaultPlanAtWork, unused}
@@ -31,7 +31,7 @@ as_sink link = record { written = Some link.sink.written; faults = link.sink.pla
 abbrev pub link_order : MemoryLink → Option (List Move)
 link_order link = order_of link.log
 
--- the link that a plan makes: it gave nothing yet, and nothing was written to it
+-- the link that a plan makes, before any byte went over it
 abbrev pub made_by : LinkPlan → MemoryLink
 made_by plan = record {
   source = record { given = []; left = plan.bytes; plan = unused plan.source.piece plan.source.failing };
@@ -39,7 +39,7 @@ made_by plan = record {
   log = Some [];
 }
 
--- a door: the links that wait, the plan by which its calls fail, and how many links and closings it counted
+-- a door in memory: the links that wait, the plan of its faults, and what it counted
 pub record DoorInMemory : Type 0 where
   pub waiting : List LinkPlan
   pub plan : FaultPlanAtWork
@@ -48,11 +48,11 @@ pub record DoorInMemory : Type 0 where
   -- whether a listen succeeded
   pub listening : Bool
 
--- somewhere, behind a listen that succeeded
+-- where peers may come: somewhere once a listen succeeded, else nowhere
 abbrev pub place_in_memory : DoorInMemory → DoorPlace
 place_in_memory door = cond door.listening somewhere nowhere
 
--- whether peers may come behind a listen
+-- whether peers may come after a listen
 abbrev pub listens_now : Bool → Listen → Bool
 listens_now before listen.Ready = true
 listens_now before listen.Failed = before
@@ -61,11 +61,11 @@ listens_now before listen.Failed = before
 abbrev pub counts_of : DoorInMemory → DoorCounts
 counts_of door = record { faults = door.plan.faults; links = door.links; closings = door.closings }
 
--- the next accept fails: that is planned, or the door gave as many links as it can count
+-- the next accept fails: that is planned, or the count of links is at its end
 abbrev pub IsToFail : DoorInMemory → Type 0
 IsToFail door = Contains door.plan.failing door.plan.calls ⊎ (door.links ≡ 2 ^ 64 - 1)
 
--- what an accept does to the links that wait: the first is given, as it was planned, or none waits
+-- what an accept does to the links that wait: the first is given as it was planned, or none waits
 abbrev pub GivesLink : List LinkPlan → List LinkPlan → Accept MemoryLink → Type 0
 GivesLink old new (accept.Link link) = (plan : LinkPlan) × (old ≡ plan ∷ new) × (link ≡ made_by plan)
 GivesLink old new accept.Closed = (old ≡ []) × (new ≡ [])

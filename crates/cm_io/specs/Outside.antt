@@ -1,5 +1,5 @@
 -- Promised.
--- What the calls on the outside say: how the bytes moved, and that a failure is counted.
+-- What the calls on a source or a sink do: how the bytes move, and that a failure is counted.
 use Rattle.std.specs.Prelude.{◌≡◌, ℕ, ◌<◌, ◌≤◌, List, length, take, Option}
 use Rattle.std.specs.Io.KnownBytes.{Appends, Consumes, IsAtEnd, Keeps}
 use Rattle.cm_io.specs.Counts.{one_more}
@@ -8,11 +8,11 @@ use Rattle.cm_io.specs.declared.source.Got.TheVariants as got
 use Rattle.cm_io.specs.declared.sink.Took.{Took}
 use Rattle.cm_io.specs.declared.sink.Took.TheVariants as took
 
--- a count of faults rose; one that stands at its end, 2^64 - 1, stays there, and this counts as rising
+-- a count of faults rose; it stops at 2^64 - 1, and staying there counts as rising
 abbrev pub Rose : ℕ → ℕ → Type 0
 Rose before now = one_more before ≤ now
 
--- what a read does to the bytes that are left, where those are known
+-- what a read does to the bytes that the source has left, where those are known
 abbrev pub ReadsBytes : Option (List ℕ) → Option (List ℕ) → List ℕ → Got → Type 0
 ReadsBytes old new into (got.Bytes n) = (0 < n) × (n ≤ length into) × Consumes old new (take n into)
 ReadsBytes old new into got.End = Keeps old new × IsAtEnd new
@@ -23,14 +23,14 @@ abbrev pub Writes : Option (List ℕ) → Option (List ℕ) → List ℕ → Too
 Writes old new bytes (took.Bytes n) = (0 < n) × (n ≤ length bytes) × Appends old new (take n bytes)
 Writes old new bytes took.Failed = Keeps old new
 
--- what a read does to the bytes that the source gave so far, where those are told
+-- what a read adds to the bytes that the source gave, where those are told
 abbrev pub Gave : Option (List ℕ) → Option (List ℕ) → List ℕ → Got → Type 0
 Gave old new into (got.Bytes n) = Appends old new (take n into)
 Gave old new into got.End = Keeps old new
 Gave old new into got.Failed = Keeps old new
 
--- what an object tells as a source: the bytes that are left, those that it gave so far, and how
--- often it failed
+-- what an object tells as a source: the bytes that are left, those that it gave so far, and how often
+-- it failed
 pub record AsSource : Type 0 where
   pub left : Option (List ℕ)
   pub given : Option (List ℕ)
@@ -41,18 +41,18 @@ pub record AsSink : Type 0 where
   pub written : Option (List ℕ)
   pub faults : ℕ
 
--- a fact about the number of bytes that a write took; a write that failed meets none
+-- P holds of the number of bytes that a write took; never of a write that failed
 abbrev pub TookAnd : Took → (ℕ → Type 0) → Type 0
 TookAnd (took.Bytes n) P = P n
 TookAnd took.Failed P = ⊥
 
--- the count rose by one at a read that failed, and stayed at every other
+-- a read that failed is counted, and no other
 abbrev pub ReadCause : ℕ → ℕ → Got → Type 0
 ReadCause before now got.Failed = (before ≤ now) × (now ≡ one_more before)
 ReadCause before now (got.Bytes n) = now ≡ before
 ReadCause before now got.End = now ≡ before
 
--- the count rose by one at a write that failed, and stayed at every other
+-- a write that failed is counted, and no other
 abbrev pub WriteCause : ℕ → ℕ → Took → Type 0
 WriteCause before now took.Failed = (before ≤ now) × (now ≡ one_more before)
 WriteCause before now (took.Bytes n) = now ≡ before

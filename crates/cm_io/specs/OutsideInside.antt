@@ -1,5 +1,5 @@
 -- Inside.
--- What the calls on the outside say: how the bytes moved, and that a failure is counted.
+-- What functions over sources and sinks say of them.
 use Rattle.std.specs.Prelude.{◌≡◌, ℕ, ◌<◌, ◌≤◌, Bool, true, false, List, length, take, Option, None}
 use Rattle.std.specs.Io.KnownBytes.{Appends, Consumes}
 use Rattle.cm_io.specs.Counts.{one_more}
@@ -11,11 +11,11 @@ use Rattle.cm_io.specs.declared.output.Put.{Put}
 use Rattle.cm_io.specs.declared.output.Put.TheVariants as put
 use Rattle.cm_io.specs.Outside.{AsSource, AsSink}
 
--- what an object tells as a source that is none
+-- what an object that is no source tells as one: nothing
 abbrev pub no_source : AsSource
 no_source = record { left = None; given = None; faults = 0 }
 
--- what an object tells as a sink that is none
+-- what an object that is no sink tells as one: nothing
 abbrev pub no_sink : AsSink
 no_sink = record { written = None; faults = 0 }
 
@@ -35,11 +35,11 @@ abbrev pub PutsAll : Option (List ℕ) → Option (List ℕ) → List ℕ → Pu
 PutsAll old new bytes put.Done = Appends old new bytes
 PutsAll old new bytes (put.WriteFault n) = (n < length bytes) × Appends old new (take n bytes)
 
--- the count rose by one at a fault, and else stayed
+-- a fault is counted, and nothing else
 abbrev pub PutCause : ℕ → ℕ → Put → Type 0
 PutCause before now put.Done = now ≡ before
 PutCause before now (put.WriteFault n) = (before ≤ now) × (now ≡ one_more before)
 
--- known bytes lost some bytes at their prefix
+-- some first bytes of the known ones are gone
 abbrev pub LosesPrefix : Option (List ℕ) → Option (List ℕ) → Type 0
 LosesPrefix old new = (bytes : List ℕ) × Consumes old new bytes

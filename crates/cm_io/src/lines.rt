@@ -44,7 +44,7 @@ pub enum Next {
 ///
 /// Contracts see the bytes that it holds: the source gave them, and they belong to no line told so
 /// far. They are those of `piece` from `start` up to `end`. And they see whether the source came to
-/// its end: behind that it isn't read again. Each byte is looked at once and copied once, so the
+/// its end: after that it isn't read again. Each byte is looked at once and copied once, so the
 /// time grows with the number of bytes and reads alone.
 #[derive(Drop)]
 pub struct LineReader {
@@ -86,12 +86,12 @@ impl LineReader {
     }
 
     /// Takes the next line. The byte 0x0A ends each line; a last line without it counts where it isn't empty.
-    /// A whole line that is held is told without a read, and so is what is held behind the source's end.
+    /// A whole line that is held is told without a read, and so is what is held after the source's end.
     /// It reads only while no line ends in what it has, so never further than the read that holds the line's
     /// end, and a read that fails is told.
     ///
     /// It is `TooLong` exactly where the next line has more than 65,536 bytes, and the next call
-    /// goes on behind that line. It is `End` exactly where no byte is left. `ReadFault` comes only
+    /// goes on after that line. It is `End` exactly where no byte is left. `ReadFault` comes only
     /// where the source's count of faults rose in this call, and no line end is among the bytes
     /// taken so far, and never from a quiet source; `Memory` only where memory ran out. After these
     /// two a part of a line is lost, so make no further call.
@@ -186,13 +186,14 @@ impl LineReader {
     }
 }
 
+/// The place of the first byte that ends a line, if there is one.
 fn first_line_end(bytes: &[u8]) -> Option<usize>
     ensures { result ≡ position (λ byte. byte == LINE_END) bytes.now }
 {
     bytes.iter().position(|byte| *byte == LINE_END)
 }
 
-/// Puts `part` behind `line`, unless that is too long already.
+/// Puts `part` after `line`, unless that is too long already.
 fn grow(line: &mut Vec<u8>, part: &[u8]) -> Result<(), AllocError>
     ensures { OnOk result (LineGrows line.old.items line.new.items part.now) }
 {

@@ -37,6 +37,7 @@ impl FaultPlan {
     }
 }
 
+/// Whether the call of this number is one of these.
 fn is_among(calls: &[u64], call: u64) -> bool
     ensures { IsTrue result ↔ Contains calls.now call }
 {
@@ -53,6 +54,7 @@ pub(crate) struct Planned {
 }
 
 impl Planned {
+    /// The plan before the first call.
     pub(crate) fn new(plan: FaultPlan) -> Planned
         ensures { result ≡ record { piece = plan.piece; failing = plan.failing; calls = 0; faults = 0 } }
     {
@@ -72,6 +74,7 @@ impl Planned {
         self.piece.max(1)
     }
 
+    /// Counts one more fault, up to 2^64 - 1.
     pub(crate) fn count_fault(&mut self)
         ensures later { self.old.faults ≤ self.new.faults }
         ensures count { self.new ≡ record self.old { faults = one_more self.old.faults } }
@@ -161,6 +164,8 @@ impl Source for MemorySource {
 
     ghost quiet = { λ s. s.plan.failing ≡ [] };
 
+    /// Gives the next bytes of the list, as many as the plan lets one call move, or fails where that is
+    /// planned.
     fn read<R: Threads + Wait + Sync>(&mut self, _rt: &R, into: &mut [u8]) -> Got
         requires { 0 < length into.old }
         ensures bytes { ReadsBytes (Some self.old.left) (Some self.new.left) into.new result }
@@ -271,6 +276,8 @@ impl Sink for MemorySink {
 
     ghost beside = { λ _. no_source };
 
+    /// Keeps first bytes of the piece, as many as the plan lets one call move. It fails where that is
+    /// planned, or where no memory is found.
     fn write<R: Threads + Wait + Sync>(&mut self, _rt: &R, bytes: &[u8]) -> Took
         requires { 0 < length bytes.now }
         ensures bytes { Writes (Some self.old.written) (Some self.new.written) bytes.now result }

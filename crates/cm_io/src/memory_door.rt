@@ -81,6 +81,7 @@ impl MemoryDoor {
 impl Door for MemoryDoor {
     ghost use Rattle.cm_io.specs.MemoryDoors.{counts_of, place_in_memory};
 
+    /// Its links are in memory.
     type Link = MemoryLink;
 
     ghost counts = { counts_of };

@@ -47,6 +47,7 @@ impl Source for MemoryLink {
 
     ghost order = { link_order };
 
+    /// Reads from its own source, and notes the read in the order.
     fn read<R: Threads + Wait + Sync>(&mut self, rt: &R, into: &mut [u8]) -> Got
         requires { 0 < length into.old }
         ensures bytes { ReadsBytes (Some self.old.source.left) (Some self.new.source.left) into.new result }
@@ -88,6 +89,7 @@ impl Sink for MemoryLink {
 
     ghost order = { link_order };
 
+    /// Writes to its own sink, and notes the write in the order.
     fn write<R: Threads + Wait + Sync>(&mut self, rt: &R, bytes: &[u8]) -> Took
         requires { 0 < length bytes.now }
         ensures bytes { Writes (Some self.old.sink.written) (Some self.new.sink.written) bytes.now result }
@@ -127,6 +129,7 @@ impl Link for MemoryLink {
 
     ghost one_order = { λ _. refl };
 
+    /// Only notes that it was hung up on.
     fn hang_up<R: Threads + Wait + Sync>(&mut self, _rt: &R)
         ensures source { as_source self.new ≡ as_source self.old }
         ensures sink { as_sink self.new ≡ as_sink self.old }

@@ -52,6 +52,7 @@ impl Source for SocketLink {
 
     ghost beside = { λ l. record { written = None; faults = l.write_faults } };
 
+    /// Reads from the socket. Every error of it, and a read after it was hung up, counts as a fault.
     fn read<R: Threads + Wait + Sync>(&mut self, _rt: &R, into: &mut [u8]) -> Got {
         if let Some(stream) = &mut self.stream {
             match read_through(stream, into) {
@@ -76,6 +77,8 @@ impl Sink for SocketLink {
 
     ghost beside = { λ l. record { left = None; given = None; faults = l.read_faults } };
 
+    /// Writes to the socket. Every error of it, a write of no byte, and one after it was hung up count
+    /// as faults.
     fn write<R: Threads + Wait + Sync>(&mut self, _rt: &R, bytes: &[u8]) -> Took {
         if let Some(stream) = &mut self.stream {
             match write_through(stream, bytes) {
@@ -166,6 +169,7 @@ fn remove_file_of<N: Files>(system: &N, listener: &UnixListener) {
     }
 }
 
+/// Whether there is a socket file at the path. A link to one is none.
 fn is_socket<N: Files>(system: &N, at: &str) -> bool {
     match fs::symlink_metadata(system, at) {
         Ok(about) => about.file_type().is_socket(),
@@ -252,12 +256,15 @@ fn is_passing(error: &io::Error) -> bool {
 impl<N: Files<File = File> + Net + Drop> Door for SocketDoor<N> {
     ghost use Rattle.cm_io.specs.DoorsInside.{place_by};
 
+    /// Its links are connections over Unix sockets.
     type Link = SocketLink;
 
     ghost place = { λ d. place_by d.listener };
 
     ghost counts = { λ d. record { faults = d.faults; links = d.links; closings = 0 } };
 
+    /// Listens at the path, and no longer where it listened before. It fails where the path is in use
+    /// or the system refuses.
     fn listen<R: Threads + Wait + Sync>(&mut self, _rt: &R, at: &str) -> Listen {
         match listen_at(&self.system, at) {
             Ok(listener) => {
@@ -272,6 +279,8 @@ impl<N: Files<File = File> + Net + Drop> Door for SocketDoor<N> {
         }
     }
 
+    /// Waits for the next peer. It fails where nobody can come, the system refuses, or 2^64 - 1 links
+    /// were given.
     fn accept<R: Threads + Wait + Sync>(&mut self, _rt: &R) -> Accept<SocketLink> {
         if self.links < u64::MAX {
             if let Some(listener) = &self.listener {

@@ -68,6 +68,7 @@ impl<T: Read + Drop> Source for Reading<T> {
 
     ghost quiet = { λ _. ⊥ };
 
+    /// Reads from the stream; every error of it counts as a fault.
     fn read<R: Threads + Wait + Sync>(&mut self, _rt: &R, into: &mut [u8]) -> Got {
         match read_through(&mut self.inner, into) {
             Ok(0) => Got::End,
@@ -109,6 +110,7 @@ impl<T: Write + Drop> Sink for Writing<T> {
 
     ghost room = { λ _. 0 };
 
+    /// Writes to the stream; every error of it, and a write of no byte, count as faults.
     fn write<R: Threads + Wait + Sync>(&mut self, _rt: &R, bytes: &[u8]) -> Took {
         match write_through(&mut self.inner, bytes) {
             Ok(count) if count > 0 => Took::Bytes(count),

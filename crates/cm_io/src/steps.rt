@@ -37,7 +37,7 @@ impl Model for StepLog {
 }
 
 impl StepLog {
-    /// No move yet.
+    /// The log of a link that has made no move yet.
     pub fn new(alloc: Global) -> StepLog
         ensures { result ≡ Some [] }
     {
@@ -48,7 +48,7 @@ impl StepLog {
         }
     }
 
-    /// One move more.
+    /// Notes one more move. Where memory runs out for it, the log isn't told any more.
     fn note(&mut self, step: LoggedMove)
         ensures { MovesCame (order_of self.old) (order_of self.new) (move_of step ∷ []) }
     {
@@ -57,6 +57,7 @@ impl StepLog {
         }
     }
 
+    /// A copy of the bytes of a move, for the log. `Err(Memory)` comes where memory runs out.
     fn copied(&self, bytes: &[u8]) -> Result<Bytes, Memory>
         ensures { IfOk result (λ copy. copy ≡ bytes.now) }
     {
@@ -83,7 +84,7 @@ impl StepLog {
         }
     }
 
-    /// The link was hung up.
+    /// Notes that the link was hung up.
     pub fn note_hung_up(&mut self)
         ensures { MovesCame (order_of self.old) (order_of self.new) (move_of LoggedMove.HungUp ∷ []) }
     {

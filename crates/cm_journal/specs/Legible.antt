@@ -1,5 +1,5 @@
 -- Inside.
--- The events of a run can be told of.
+-- That a run's journal is a legal journal.
 use Rattle.std.specs.Prelude.{◌≡◌, ℕ, ◌<◌, ◌≤◌, List, [], ◌++◌, All, length, map}
 use Rattle.cm_world.specs.declared.event.Event.{Event}
 use Rattle.cm_world.specs.declared.frame.Frame.{Frame}
@@ -19,11 +19,11 @@ use Rattle.cm_journal.specs.Asked.{AreWritableLines}
 use Rattle.cm_journal.specs.Prefix.{said_text}
 use Rattle.cm_journal.specs.Made.{IsSayable, IsBrought}
 
--- what types, commands and works say is all that has to be said
+-- an event that is legible by its types, by its command and by the work of its action is legible
 abbrev pub SaidIsLegible : Type 0
 SaidIsLegible = (e : Event) → IsTyped e → IsSayable e → IsBrought e → IsLegible e
 
--- what lanes made of lines that can be written, with their works
+-- what lanes make of lines that can be written, with the works of their actions
 pub record IsWritableRun (f : Frame) (phases : List (List Line)) (answered : List (List AnsweredLine))
     (history : List Entry) : Type 0 where
   pub lines : map answered_lines answered ≡ phases
@@ -35,7 +35,7 @@ pub record IsWritableRun (f : Frame) (phases : List (List Line)) (answered : Lis
   pub typed : All IsTypedEntry history
   pub works : (c : ℕ) → c < 16 → All (λ (e : Entry). IsBrought e.event) (own_entries c history)
 
--- what is written of a run, with its journal, is a legal journal where it isn't too large
+-- what is written of a run with its journal is a legal journal, unless it is too large
 abbrev pub RunsWriteLegalJournals : Type 0
 RunsWriteLegalJournals =
     (f : Frame) (phases : List (List Line)) (answered : List (List AnsweredLine)) (history : List Entry)

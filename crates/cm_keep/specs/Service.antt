@@ -1,5 +1,5 @@
 -- Inside.
--- Of which service a journal is kept.
+-- Whether the words of a run have a journal kept.
 use Rattle.std.specs.Prelude.{◌≡◌, ◌⊎◌, List, Option, Some, None, Ok}
 use Rattle.cm_reply.specs.Lists.{TextBytes}
 use Rattle.cm_call.specs.Calls.{words_of}
@@ -7,7 +7,8 @@ use Rattle.cm_call.specs.declared.call.Call.TheVariants as call
 use Rattle.cm_call.specs.declared.call.ServeOptions.{ServeOptions}
 use Rattle.cm_keep.specs.declared.service.Keeping.{Keeping}
 
--- a journal is kept where a place is told and the words ask for a service, and it is of that service's root
+-- a journal is kept where a place for it is told and the words are those of `serve`; it has that
+-- realm's root
 abbrev pub Plans : List TextBytes → Option TextBytes → Option Keeping → Type 0
 Plans words at (Some k) =
     (at ≡ Some k.at) × (o : ServeOptions) × (words_of words ≡ Ok (call.Serve o)) × (k.root ≡ o.root)

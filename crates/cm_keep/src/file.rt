@@ -139,6 +139,7 @@ impl<F: Files + Drop> TextKeeper for FileKeeper<F> {
 
     ghost faults = { λ k. k.faults };
 
+    /// Writes the bytes to the file beside the place. Tells whether that went well.
     fn put(&mut self, bytes: &[u8]) -> bool {
         match self.file.write_all(bytes) {
             Ok(()) => true,
@@ -149,6 +150,8 @@ impl<F: Files + Drop> TextKeeper for FileKeeper<F> {
         }
     }
 
+    /// Syncs the file beside the place and renames it to the place, so that a whole text always stands
+    /// there. Tells whether that went well.
     fn show(&mut self) -> bool {
         if let Err(why) = self.file.sync_all() {
             take_away(&self.files, self.beside.as_str());
@@ -168,6 +171,7 @@ impl<F: Files + Drop> TextKeeper for FileKeeper<F> {
         }
     }
 
+    /// Removes the file beside the place, where one was begun.
     fn give_up(&mut self) {
         if self.is_pending {
             take_away(&self.files, self.beside.as_str());

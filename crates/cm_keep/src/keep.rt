@@ -42,7 +42,7 @@ fn head_of(alloc: Global, root: &Text) -> Result<Text, Memory>
     header_text(alloc, &frame)
 }
 
-/// Puts the line of an entry behind the text.
+/// Puts the line of an entry after the text.
 fn push_line(text: &mut String, number: u64, entry: &Entry) -> Result<(), Memory>
     ensures { let line = journal.line (journal.entry_text number entry.now) in
         OnOk result (GainsText text.old text.new line) }
@@ -70,7 +70,7 @@ fn hand_over<P: TextKeeper>(keeper: &mut P, held: &mut String) -> Result<(), Kee
 }
 
 #[tactic(auto, using(crate::proofs::Passing::leaves))]
-/// Puts the line of an entry behind what is held back, and hands that over where it is long enough.
+/// Puts the line of an entry after what is held back, and hands that over where it is long enough.
 fn keep_entry<P: TextKeeper>(
     keeper: &mut P,
     held: &mut String,
@@ -94,7 +94,7 @@ fn keep_entry<P: TextKeeper>(
     hand_over(keeper, held)
 }
 
-/// Hands over the lines of all entries, behind what is held back, but for what is still held back then.
+/// Hands over the lines of all entries, after what is held back, but for what is still held back then.
 fn keep_entries<P: TextKeeper>(
     keeper: &mut P,
     held: &mut String,

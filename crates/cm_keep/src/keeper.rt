@@ -15,7 +15,7 @@ pub trait TextKeeper: Drop {
     /// The texts that were put into the place, one over the other, where they are known.
     ghost shown: { Self → Option (List (List ℕ)) };
 
-    /// That this keeper has not put its text there yet: behind that nothing more is handed over.
+    /// That this keeper has not put its text there yet: after that nothing more is handed over.
     ghost pending: { Self → Type 0 };
 
     /// How often it failed.

@@ -83,6 +83,7 @@ impl TextKeeper for MemoryKeeper {
 
     ghost faults = { λ k. k.faults };
 
+    /// Adds the bytes to the draft, unless this call is planned to fail. Tells whether that went well.
     fn put(&mut self, bytes: &[u8]) -> bool {
         if self.fails() {
             return false;
@@ -96,6 +97,8 @@ impl TextKeeper for MemoryKeeper {
         }
     }
 
+    /// Puts the draft among the texts that were shown, unless this call is planned to fail. Tells
+    /// whether that went well.
     fn show(&mut self) -> bool {
         if self.fails() {
             return false;
@@ -113,6 +116,7 @@ impl TextKeeper for MemoryKeeper {
         }
     }
 
+    /// Drops the draft.
     fn give_up(&mut self) {
         self.draft.clear();
     }

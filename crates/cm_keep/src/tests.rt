@@ -6,8 +6,10 @@ use cm_world::{Entry, Event, Reply};
 use std::alloc::Global;
 use std::test::Fail;
 
+/// The URL of the root.
 const ROOT: &str = "fuchsia-pkg://t/a#meta/root.cm";
 
+/// The number of a call that never comes, so that none fails.
 const NEVER: u64 = u64::MAX;
 
 /// A history of so many entries, which are all alike.
@@ -23,7 +25,7 @@ fn history(alloc: Global, count: usize) -> Result<Vec<Entry>, Fail> {
     Ok(entries)
 }
 
-/// Its journal.
+/// The journal of the history of so many entries.
 fn journal(alloc: Global, count: usize) -> Result<String, Fail> {
     let mut text = String::new(alloc);
     text.write(format_args!("journal\nroot {ROOT}\n"))?;
@@ -55,6 +57,7 @@ fn is_kept(alloc: Global, keeper: &MemoryKeeper, count: usize) -> Result<bool, F
     }
 }
 
+/// The journals of short histories are kept in one piece.
 #[test]
 fn keeps_short_ones(rt: HostRuntime) -> Result<(), Fail> {
     for count in 0..4 {
@@ -66,6 +69,7 @@ fn keeps_short_ones(rt: HostRuntime) -> Result<(), Fail> {
     Ok(())
 }
 
+/// The journal of a long history is handed over in several pieces, and kept as a whole.
 #[test]
 fn keeps_long_ones_in_pieces(rt: HostRuntime) -> Result<(), Fail> {
     let mut keeper = MemoryKeeper::new(rt.alloc(), NEVER);
@@ -75,6 +79,7 @@ fn keeps_long_ones_in_pieces(rt: HostRuntime) -> Result<(), Fail> {
     Ok(())
 }
 
+/// Whichever call fails, nothing is shown, and the fault is told.
 #[test]
 fn keeps_nothing_of_what_fails(rt: HostRuntime) -> Result<(), Fail> {
     for failing in 0..5 {

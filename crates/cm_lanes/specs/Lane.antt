@@ -1,5 +1,5 @@
 -- Inside.
--- What one lane has in hand, from step to step.
+-- What one lane, a thread that performs one caller's lines of a script, has in hand from step to step.
 use Rattle.std.specs.Prelude.{◌≡◌, ◌⊎◌, ℕ, ◌<◌, List, [], ◌∷◌, ◌++◌, map, Bool, false, Option, Some, length}
 use Rattle.std.specs.Prelude.{slice_index_or, Any}
 use Rattle.cm_turn.specs.History.{StartsWith}
@@ -16,16 +16,17 @@ use Rattle.cm_lanes.specs.Script.{AnsweredLine, answered_lines, PerformsLines}
 use Rattle.cm_lanes.specs.ScriptInside.{said_of, lines_of}
 use Rattle.cm_manager.specs.Kept.{IsOwnPass, KeepsPass, gates_view}
 
--- a list grew by this, unless something was lost
+-- the list of answers grew by these, unless the lane has lost some for lack of memory
 abbrev pub GrewUnless : Bool → List Said → List Said → List Said → Type 0
 GrewUnless lost old new more = lost ≡ false → new ≡ old ++ more
 
--- an answer is put behind the others, or lost
+-- one answer is added to the lane's list, unless it or one before it was lost for lack of memory
 abbrev pub PutsUnless : Bool → Bool → List Said → List Said → Said → Type 0
 PutsUnless before now old new s = now ≡ false → (before ≡ false) × (new ≡ old ++ s ∷ [])
 
 module _ {G : Type 0} (log_of : G → Option (List GateCall)) (faults_of : G → ℕ) where
-  -- a caller has performed its own lines among these
+  -- the pass's caller has performed its own lines among these, in order, and its answers were kept
+  -- unless memory ran out
   pub record HasPerformed (manifests : Manifests) (lines : List Line) (p q : RealmPass) (g h : G)
       (said₀ said₁ : List Said) (lost : Bool) : Type 0 where
     pub keeps : KeepsPass manifests p q (gates_view log_of faults_of g) (gates_view log_of faults_of h)
@@ -35,20 +36,21 @@ module _ {G : Type 0} (log_of : G → Option (List GateCall)) (faults_of : G →
     pub said : GrewUnless lost said₀ said₁ (map said_of answers)
 
 module _ {G : Type 0} where
-  -- a lane with a pass of this lock
+  -- a lane that holds a pass of this lock
   pub record HasPass (turn : LockView) (lane : Lane G) : Type 0 where
     pub pass : RealmPass
     pub there : lane.pass ≡ Some pass
     pub of_lock : pass.lock ≡ turn.lock
 
-  -- a lane with a pass of this lock that has its own entries
+  -- a lane that may go on: it holds a pass of this lock, which has seen all entries of its own caller
   pub record IsReadyLane (turn : LockView) (lane : Lane G) : Type 0 where
     pub pass : RealmPass
     pub there : lane.pass ≡ Some pass
     pub of_lock : pass.lock ≡ turn.lock
     pub own : IsOwnPass pass
 
-  -- a lane's pass has met others, and has seen this now; all else of the lane is as before
+  -- a lane's pass has taken over what others had seen, which is now this; all else of the lane is as
+  -- before
   pub record Met (seen : List Entry) (old new : Lane G) : Type 0 where
     pub pass : RealmPass
     pub was : old.pass ≡ Some pass
@@ -59,20 +61,20 @@ module _ {G : Type 0} where
     pub said : new.said ≡ old.said
     pub lost : new.lost ≡ old.lost
 
-  -- two lanes have met: both have seen what one of them had
+  -- two lanes have met: each has now seen what the one that had seen more had
   pub record MetBoth (a b a' b' : Lane G) : Type 0 where
     pub seen : List Entry
     pub one : Met seen a a'
     pub other : Met seen b b'
     pub longer : (one.pass.seen ≡ seen) ⊎ (other.pass.seen ≡ seen)
 
-  -- a lane's pass has seen just this
+  -- a lane's pass has seen exactly these entries
   pub record HasSeen (seen : List Entry) (lane : Lane G) : Type 0 where
     pub pass : RealmPass
     pub there : lane.pass ≡ Some pass
     pub is : pass.seen ≡ seen
 
-  -- all lanes have met, and have seen the same, which one of them had
+  -- all lanes have met: each has now seen the same entries, which one of them had seen before
   pub record MetAll (old new : List (Lane G)) : Type 0 where
     pub seen : List Entry
     pub long : length new ≡ length old

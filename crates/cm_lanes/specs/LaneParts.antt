@@ -1,5 +1,5 @@
 -- Inside.
--- Lanes made of passes and gates, and taken apart again.
+-- Lanes are made of passes and gates, and taken apart into lists again, which are reserved beforehand.
 use Rattle.std.specs.Prelude.{◌≡◌, ℕ, ◌+◌, ◌≤◌, List, [], ◌∷◌, ◌++◌, All, map, length, false, Some}
 use Rattle.std.specs.Prelude.{vec_capacity}
 use Rattle.cm_manager.specs.Contract.{RealmPass}
@@ -8,37 +8,37 @@ use Rattle.cm_lanes.specs.declared.parts.LaneParts.{LaneParts}
 use Rattle.cm_lanes.specs.declared.parts.LaneRoom.{LaneRoom}
 
 module _ {G : Type 0} where
-  -- so many parts more can be put there
+  -- the lists have room for the parts of n more lanes
   pub record LanePartsHaveRoom (n : ℕ) (parts : LaneParts G) : Type 0 where
     pub passes : length parts.passes.items + n ≤ vec_capacity parts.passes
     pub gates : length parts.gates.items + n ≤ vec_capacity parts.gates
     pub said : length parts.said.items + n ≤ vec_capacity parts.said
 
-  -- no parts are there
+  -- the lists of parts are empty
   pub record NoLaneParts (parts : LaneParts G) : Type 0 where
     pub passes : parts.passes.items ≡ []
     pub gates : parts.gates.items ≡ []
     pub said : parts.said.items ≡ []
     pub lost : parts.lost ≡ false
 
-  -- room for so many lanes and their parts
+  -- all the memory that n lanes need was reserved: for the lanes and for their parts
   pub record LanesHaveRoom (n : ℕ) (room : LaneRoom G) : Type 0 where
     pub no_lanes : room.lanes.items ≡ []
     pub lanes : n ≤ vec_capacity room.lanes
     pub no_parts : NoLaneParts room.parts
     pub parts : LanePartsHaveRoom n room.parts
 
-  -- a lane that wasn't told anything yet
+  -- a lane that has no answers yet, and has lost none
   pub record IsFreshLane (lane : Lane G) : Type 0 where
     pub said : lane.said.items ≡ []
     pub lost : lane.lost ≡ false
 
-  -- a lane that has its pass
+  -- a lane that holds its pass; it has none only within a turn
   pub record HasPassIn (lane : Lane G) : Type 0 where
     pub pass : RealmPass
     pub there : lane.pass ≡ Some pass
 
-  -- the parts of one lane are put behind others
+  -- the parts of one lane are added to the lists
   pub record PutsLaneParts (lane : Lane G) (old new : LaneParts G) : Type 0 where
     pub pass : RealmPass
     pub there : lane.pass ≡ Some pass

@@ -12,7 +12,8 @@ use Rattle.cm_lanes.specs.ScriptInside.{said_of}
 use Rattle.cm_manager.specs.Kept.{ExtendsPass, KeepsEach, frame_at}
 
 module _ {G : Type 0} (log_of : G → Option (List GateCall)) (faults_of : G → ℕ) where
-  -- all lines were performed, phase by phase: the passes met before the first phase and behind each
+  -- all lines of the script were performed, phase by phase; before the first phase and after each, all
+  -- passes were brought to the same place of the history
   pub record RanLanes (manifests : Manifests) (phases : List (List Line)) (passes : List RealmPass)
       (gates : List G)
       (back : Lanes G) : Type 0 where
@@ -26,13 +27,13 @@ module _ {G : Type 0} (log_of : G → Option (List GateCall)) (faults_of : G →
     pub kept : KeepsEach log_of faults_of manifests passes back.passes gates back.gates
     pub said : IfSome back.said (λ said. said ≡ flat_map (λ p. map said_of p) answered)
 
-  -- nothing was done, for lack of memory
+  -- nothing was done, for lack of memory: all that was given comes back as it was
   pub record IsUntouched (passes : List RealmPass) (gates : List G) (back : Lanes G) : Type 0 where
     pub same_passes : back.passes ≡ passes
     pub same_gates : back.gates ≡ gates
     pub nothing : back.said ≡ None
 
-  -- all lines were performed, or nothing was done
+  -- all lines were performed, or nothing was done for lack of memory
   abbrev pub RanOrNot : Manifests → List (List Line) → List RealmPass → List G → Lanes G → Type 0
   RanOrNot manifests phases passes gates back = RanLanes manifests phases passes gates back
       ⊎ IsUntouched passes gates back

@@ -1,5 +1,6 @@
 -- Inside.
--- One lane meets others, one after another.
+-- One lane meets others, one after another: each pair of passes is brought to the longer history of
+-- the two.
 use Rattle.std.specs.Prelude.{◌≡◌, ◌⊎◌, ℕ, ◌<◌, ◌≤◌, List, Some, length, slice_index_or}
 use Rattle.cm_turn.specs.History.{StartsWith}
 use Rattle.cm_turn.specs.Passes.{seen_up_to}
@@ -10,19 +11,19 @@ use Rattle.cm_manager.specs.Kept.{IsOwnPass}
 use Rattle.cm_lanes.specs.Lane.{Met, HasSeen}
 
 module _ {G : Type 0} where
-  -- a lane has met others, and what it has seen then is the prefix of this
+  -- a lane has met others, and what it has seen since then is a prefix of this
   pub record MetWithin (seen : List Entry) (old new : Lane G) : Type 0 where
     pub then_seen : List Entry
     pub met : Met then_seen old new
     pub within : StartsWith seen then_seen
 
-  -- what a lane's pass has seen is the prefix of this
+  -- what a lane's pass has seen is a prefix of this
   pub record HasSeenWithin (seen : List Entry) (lane : Lane G) : Type 0 where
     pub pass : RealmPass
     pub there : lane.pass ≡ Some pass
     pub within : StartsWith seen pass.seen
 
-  -- the first lane has met so many of the others
+  -- the first lane f has met the first n of the others, and nothing else has changed
   pub record MeetsEach (n : ℕ) (f f' : Lane G) (xs ys : List (Lane G)) : Type 0 where
     pub seen : List Entry
     pub pass : RealmPass

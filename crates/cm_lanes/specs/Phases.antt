@@ -1,5 +1,5 @@
 -- Inside.
--- What the lanes have done, phase by phase.
+-- What the lanes have done, phase by phase. A phase is the lines between two `sync`s of a script.
 use Rattle.std.specs.Prelude.{◌≡◌, ℕ, ◌<◌, List, map, flat_map, Option, Some, None, length, slice_index_or}
 use Rattle.std.specs.Prelude.{slice_get}
 use Rattle.cm_turn.specs.Passes.{LockView}
@@ -17,54 +17,55 @@ use Rattle.cm_lanes.specs.ScriptInside.{said_of}
 use Rattle.cm_manager.specs.Kept.{ExtendsPass, IsOwnPass, KeepsPass, gates_view}
 use Rattle.cm_lanes.specs.Lane.{GrewUnless, LaneWorked}
 
--- what one lane is told of all phases
+-- the answers that one lane got in all phases
 abbrev pub told_to : ℕ → List (List AnsweredLine) → List Said
 told_to k answered = flat_map (λ a. map said_of (answers_of k a)) answered
 
 module _ {G : Type 0} where
-  -- a lane of the caller of this number
+  -- a lane whose pass is of this lock and belongs to caller k
   pub record IsLaneOf (turn : LockView) (k : ℕ) (lane : Lane G) : Type 0 where
     pub pass : RealmPass
     pub there : lane.pass ≡ Some pass
     pub of_lock : pass.lock ≡ turn.lock
     pub caller : pass.caller ≡ k
 
-  -- the lanes of the sixteen callers
+  -- the sixteen lanes, each of the caller with its number
   pub record AreLanes (turn : LockView) (lanes : List (Lane G)) : Type 0 where
     pub count : length lanes ≡ 16
     pub each : (k : ℕ) (d : Lane G) → k < 16 → IsLaneOf turn k (slice_index_or lanes k d)
 
-  -- the frame of a lane's pass
+  -- what the realm of a lane's pass was made with; some frame where there is no lane or no pass
   abbrev pub frame_in_lane : Option (Lane G) → Frame
   frame_in_lane None = no_frame
   frame_in_lane (Some lane) = elim lane.pass as (λ _. Frame) [ None ↦ no_frame | Some p ↦ frame_of p ]
 
-  -- the frame of the lane at a place
+  -- what the realm of the pass of lane k was made with
   abbrev pub lane_frames : List (Lane G) → ℕ → Frame
   lane_frames lanes k = frame_in_lane (slice_get lanes k)
 
-  -- a history goes on from what a lane has seen
+  -- this history goes on from what the lane's pass has seen
   pub record LaneBegins (history : List Entry) (lane : Lane G) : Type 0 where
     pub pass : RealmPass
     pub there : lane.pass ≡ Some pass
     pub goes_on : ExtendsPass history pass
 
 module _ {G : Type 0} (log_of : G → Option (List GateCall)) (faults_of : G → ℕ) where
-  -- a lane has performed its own lines among these, and has met the others
+  -- a lane has performed its own lines of a phase, and has met the others since
   pub record Passed (manifests : Manifests) (lines : List Line) (last : List Entry)
       (old new : Lane G) : Type 0 where
     pub worked : LaneWorked log_of faults_of manifests lines old new
     pub seen : worked.q.seen ≡ last
     pub own : IsOwnPass worked.q
 
-  -- all lanes have performed their own lines among these, and have met
+  -- all lanes have performed their own lines of a phase, and have met
   pub record PassedAll (manifests : Manifests) (lines : List Line) (old new : List (Lane G)) : Type 0 where
     pub last : List Entry
     pub long : length new ≡ length old
     pub each : (k : ℕ) (d : Lane G) → k < length old
         → Passed manifests lines last (slice_index_or old k d) (slice_index_or new k d)
 
-  -- what has become of a lane behind these phases
+  -- what has become of lane k after these phases: its pass has seen all, its gates did the work of its
+  -- calls, and it has its answers
   pub record LaneRan (manifests : Manifests) (answered : List (List AnsweredLine)) (last : List Entry) (k : ℕ)
       (old new : Lane G) : Type 0 where
     pub p : RealmPass
@@ -78,7 +79,7 @@ module _ {G : Type 0} (log_of : G → Option (List GateCall)) (faults_of : G →
         (gates_view log_of faults_of new.gates)
     pub said : GrewUnless new.lost old.said.items new.said.items (told_to k answered)
 
-  -- the lanes have performed these phases
+  -- the lanes have performed these phases, one after another
   pub record LanesRan (manifests : Manifests) (phases : List (List Line)) (old new : List
       (Lane G)) : Type 0 where
     pub first : List Entry

@@ -1,4 +1,4 @@
-//! One lane.
+//! One lane: a thread that performs one caller's lines of a script.
 
 ghost use Rattle.std.specs.Prelude.{◌≡◌, All, Some};
 ghost use Rattle.cm_lanes.specs.ScriptInside.{IsFit};
@@ -29,8 +29,8 @@ pub(crate) struct Lane<G> {
     pub(crate) lost: bool,
 }
 
-/// Puts an answer behind the others. The result says whether it was lost, because memory ran out
-/// for the list, or another was before.
+/// Adds an answer to the lane's list. The result says whether it was lost, because memory ran out for
+/// the list, or whether one before it was.
 fn tell(said: &mut VecDeque<Said>, answer: Said, lost: bool) -> bool
     ensures { PutsUnless lost result said.old.items said.new.items answer }
 {
@@ -79,7 +79,7 @@ fn perform_lines<R: Threads + Wait + Sync, G: Gates>(
     (pass, lost)
 }
 
-/// Puts a value where another may be.
+/// Puts a value into a place; one that was there is dropped.
 pub(crate) fn put<T: Drop>(place: &mut Option<T>, value: T)
     ensures { place.new ≡ Some value }
 {

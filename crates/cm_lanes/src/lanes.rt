@@ -23,7 +23,7 @@ use std::sync::Wait;
 use std::thread::Threads;
 
 /// Runs the phases of a script: in each phase each lane performs its lines in order, with the pass
-/// and the gates at its place, the lanes side by side. Before the first phase and behind each, all
+/// and the gates at its place, the lanes side by side. Before the first phase and after each, all
 /// passes meet.
 ///
 /// Every line is one of lanes 0 to 15. The passes are the manager's of callers 0 to 15, in this

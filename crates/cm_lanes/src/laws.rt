@@ -11,7 +11,7 @@ pub fn lines_are_runs()
     ensures { laws.LinesAreRuns }
 {}
 
-/// Where nothing is done, lack of memory may be the answer to every line.
+/// Where nothing is done, out of memory may be the answer to every line.
 pub fn lines_may_be_lost()
     ensures { laws.LinesMayBeLost }
 {}

@@ -1,7 +1,7 @@
 //! Lanes: many callers side by side, each with lines of its own.
 //!
 //! A script's lines belong to sixteen lanes, and stand in phases. In a phase each lane performs
-//! its lines in order, with a pass and gates of its own, the lanes side by side in threads. Behind
+//! its lines in order, with a pass and gates of its own, the lanes side by side in threads. After
 //! a phase all passes meet, so that each lane knows what the others did before it goes on.
 //!
 //! | file of `specs/` | says |

@@ -1,4 +1,4 @@
-//! What was said to the lanes, put in the order of the script.
+//! The answers of all lanes are merged into the order of the script.
 
 ghost use Rattle.std.specs.Prelude.{◌≡◌, ◌<◌, ◌++◌, ℕ, All, IfOk, OnOk};
 ghost use Rattle.std.specs.Prelude.{flat_map, length, map, slice_index_or};
@@ -11,7 +11,7 @@ use cm_names::{List, Memory};
 use std::alloc::Global;
 use std::collections::VecDeque;
 
-/// Takes the first item of a queue.
+/// Takes the first answer from a lane's queue, if it has one.
 fn take_first(queues: &mut Vec<VecDeque<Said>>, lane: u32) -> Option<Said>
     requires { lane < length queues.old.items }
     ensures takes { TakesFirst lane queues.old.items queues.new.items result }
@@ -47,7 +47,7 @@ fn merge_lines(
     Ok(())
 }
 
-/// Puts what was said to the lanes in the order of the lines. `Err(Memory)` means that memory ran
+/// Merges the answers of all lanes into the order of the lines. `Err(Memory)` means that memory ran
 /// out.
 pub(crate) fn merge(
     alloc: Global,

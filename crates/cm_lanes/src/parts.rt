@@ -82,7 +82,7 @@ pub(crate) fn make_lanes<G: Drop>(
     lanes
 }
 
-/// Takes lanes apart.
+/// Takes lanes apart into lists of their parts, for which there is room.
 pub(crate) fn take_apart<G: Drop>(lanes: Vec<Lane<G>>, parts: LaneParts<G>) -> LaneParts<G>
     requires passes { All HasPassIn lanes.items }
     requires empty { NoLaneParts parts }
@@ -96,7 +96,7 @@ pub(crate) fn take_apart<G: Drop>(lanes: Vec<Lane<G>>, parts: LaneParts<G>) -> L
     parts
 }
 
-/// Puts the parts of a lane behind those of others.
+/// Adds the parts of a lane to the lists, for which there is room.
 fn put_parts<G: Drop>(lane: Lane<G>, parts: &mut LaneParts<G>)
     requires pass { HasPassIn lane }
     requires room { LanePartsHaveRoom 1 parts.old }

@@ -14,13 +14,13 @@ use Rattle.cm_world.specs.World.{World, start}
 use Rattle.cm_world.specs.Legal.{replay}
 use Rattle.cm_laws.specs.Lasting.{OfEachEntry}
 
--- the instance that a pick picks: one to be stopped, or one that was off and is shut
+-- the instance that a pick chose: one to be stopped, or one that was off and is shut now
 abbrev pub picked_by : Event → Reply → Option ℕ
 picked_by (Pick t) (Stopping work) = Some work.inc
 picked_by (Pick t) (ShutDown i) = Some i
 picked_by _ _ = None
 
--- each client of an instance that stands at or below its outermost closing row is shut
+-- all clients of an instance are shut, as far as they are at or below its outermost closing row
 pub record HasClientsShut (w : World) (y : ℕ) : Type 0 where
   pub top : ℕ
   pub outermost : outermost w.rows y ≡ Some top
@@ -28,7 +28,7 @@ pub record HasClientsShut (w : World) (y : ℕ) : Type 0 where
       (x : ℕ) → IsClient w.rows w.frame.builtins x y → IsTrue (is_below w.rows top x)
       → IsTrue (is_shut w.rows x)
 
--- each instance that is picked has its clients shut so, in the tree that the entries before leave
+-- whenever a shutdown picks an instance, its clients that go with it are shut already
 abbrev pub PicksClientsFirst : Frame → List Entry → Type 0
 PicksClientsFirst f es =
     OfEachEntry

@@ -1,5 +1,5 @@
 -- Inside.
--- Clients stop before what they depend on.
+-- The law of clients, as a statement of every legal history.
 use Rattle.std.specs.Prelude.{List}
 use Rattle.cm_world.specs.declared.frame.Frame.{Frame}
 use Rattle.cm_world.specs.declared.reply.Entry.{Entry}

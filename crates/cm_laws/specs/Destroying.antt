@@ -1,6 +1,5 @@
 -- Promised.
--- What holds of the instances that are destroyed: from then on they are named as gone.
--- ---- what entries name
+-- What holds of instances that are destroyed: from then on they are told as gone.
 use Rattle.std.specs.Prelude.{◌≡◌, ◌⊎◌, ℕ, ◌<◌, Bool, true, false, IsTrue, Option, Some, None}
 use Rattle.std.specs.Prelude.{List, [], ◌∷◌, ◌++◌, map, Contains}
 use Rattle.cm_names.specs.declared.moniker.Moniker.{Moniker}
@@ -22,17 +21,19 @@ use Rattle.cm_world.specs.World.{World, start}
 use Rattle.cm_world.specs.After.{dooms}
 use Rattle.cm_world.specs.Legal.{replay}
 
--- the instance that provides, if it is one
+-- ---- what entries name
+
+-- the incarnation that provides a capability; none for the framework and for builtins
 abbrev pub incs_of_provider : Provider → List ℕ
 incs_of_provider (provider.Instance i moniker) = i ∷ []
 incs_of_provider provider.Framework = []
 incs_of_provider provider.Builtin = []
 
--- the instances along a route, and the one that provides at its end
+-- the incarnations on a route, and the one that provides at its end
 abbrev pub incs_of_route : Route → List ℕ
 incs_of_route r = map (λ h. h.inc) r.hops ++ incs_of_provider r.provider
 
--- the instances that a reply names
+-- the incarnations that a reply names
 abbrev pub named_in : Reply → List ℕ
 named_in (reply.Found i) = i ∷ []
 named_in (reply.Need i) = i ∷ []
@@ -73,7 +74,8 @@ named_in (reply.Left moniker) = []
 named_in (reply.Tailed entries) = []
 named_in (reply.Reaping incs) = incs
 
--- the instance that an event asks for something: for an action, a child, a route, an opening or a report
+-- the incarnation that an event asks for something: an action, a child, a route, an opening or a
+-- report
 abbrev pub asked_of : Event → Option ℕ
 asked_of (Begin kind i) = Some i
 asked_of (Create i coll name url gives) = Some i
@@ -86,7 +88,7 @@ asked_of (Survey i) = Some i
 asked_of (Tail i from) = Some i
 asked_of _ = None
 
--- a reply to a reap, a pick or a purge, which takes an instance a step on towards its end
+-- whether a reply takes an instance a step on towards its end: one to a reap, a pick or a purge
 abbrev pub is_removing : Reply → Bool
 is_removing (reply.Reaping incs) = true
 is_removing (reply.Stopping work) = true
@@ -96,8 +98,7 @@ is_removing _ = false
 
 -- ---- what was destroyed
 
--- one of these entries doomed the row: it was marked to be destroyed, or it went with an instance that
--- stopped
+-- one of these entries marked the row to be destroyed, or had it go with an instance that stopped
 pub record IsDoomed (f : Frame) (es : List Entry) (i : ℕ) : Type 0 where
   pub prefix : List Entry
   pub entry : Entry
@@ -105,7 +106,7 @@ pub record IsDoomed (f : Frame) (es : List Entry) (i : ℕ) : Type 0 where
   pub whole : es ≡ prefix ++ entry ∷ rest
   pub dooms : IsTrue (dooms (replay (start f) prefix) entry i)
 
--- at some time the row was at or below one that had been doomed
+-- at some time of this history the row was at or below one that had been doomed
 pub record IsDestroyed (f : Frame) (es : List Entry) (i : ℕ) : Type 0 where
   pub first : List Entry
   pub rest : List Entry
@@ -114,7 +115,7 @@ pub record IsDestroyed (f : Frame) (es : List Entry) (i : ℕ) : Type 0 where
   pub doomed : IsDoomed f first top
   pub below : IsTrue (is_below (replay (start f) first).rows top i)
 
--- one of these entries removed the row, as one of those at and below another
+-- one of these entries removed the row from the tree, with all at and below some row
 pub record IsPurged (es : List Entry) (i : ℕ) : Type 0 where
   pub entry : Entry
   pub there : Contains es entry
@@ -126,7 +127,7 @@ pub record IsPurged (es : List Entry) (i : ℕ) : Type 0 where
 
 -- ---- what becomes of it
 
--- an entry treats a row as gone
+-- an entry treats a row that is destroyed as gone: nobody gets anything of it any more
 pub record IsShunned (w : World) (e : Entry) (i : ℕ) : Type 0 where
   pub gone : IsTrue (is_gone w.rows i)
   -- who asks it for something is told so, and gets nothing else
@@ -136,7 +137,7 @@ pub record IsShunned (w : World) (e : Entry) (i : ℕ) : Type 0 where
   -- no other reply names it but one to a reap, a pick or a purge
   pub named : Contains (named_in e.reply) i → (e.reply ≡ reply.Gone i) ⊎ IsTrue (is_removing e.reply)
 
--- an entry treats a row as one that was there and is no more
+-- an entry treats a row that was removed as one that was there and is no more
 pub record IsForgotten (w : World) (e : Entry) (i : ℕ) : Type 0 where
   -- no row has its incarnation, nor gets it again
   pub known : i < w.next_inc
@@ -152,8 +153,8 @@ pub record KeepsGone (f : Frame) (prefix : List Entry) (e : Entry) : Type 0 wher
   pub destroyed : (i : ℕ) → IsDestroyed f prefix i → IsShunned (replay (start f) prefix) e i
   pub purged : (i : ℕ) → IsPurged prefix i → IsForgotten (replay (start f) prefix) e i
 
--- in the tree that is left, what was destroyed is gone, what was removed is no more, and no moniker finds
--- either
+-- in the tree that a history leaves, what was destroyed is gone, what was removed isn't there, and no
+-- moniker finds either
 pub record LeavesGone (f : Frame) (es : List Entry) : Type 0 where
   pub destroyed : (i : ℕ) → IsDestroyed f es i → IsTrue (is_gone (replay (start f) es).rows i)
   pub known : (i : ℕ) → IsPurged es i → i < (replay (start f) es).next_inc

@@ -11,7 +11,7 @@ use Rattle.cm_laws.specs.Clients.{PicksClientsFirst}
 use Rattle.cm_laws.specs.Shutdowns.{MarksHold, DoneStaysShut, ShutdownGoesOn}
 use Rattle.cm_laws.specs.Destroying.{IsDoomed, IsDestroyed, KeepsGone, LeavesGone}
 
--- a legal history keeps these laws
+-- all laws that every legal history keeps
 pub record KeepsLaws (f : Frame) (es : List Entry) : Type 0 where
   -- each route that was opened is one in the tree of that very entry
   pub routes : HasStableRoutes f es

@@ -21,30 +21,30 @@ use Rattle.cm_world.specs.Stations.{Station}
 use Rattle.cm_world.specs.Route.{IsRoute, last_of, provider_of}
 use Rattle.cm_world.specs.Legal.{replay}
 
--- it holds of each entry, with the entries before it
+-- P holds of each entry of a history, with the entries before it
 abbrev pub OfEachEntry : (List Entry → Entry → Type 0) → List Entry → Type 0
 OfEachEntry P es = (prefix rest : List Entry) (e : Entry) → es ≡ prefix ++ e ∷ rest → P prefix e
 
 -- ---- routes
 
--- where an opening starts from
+-- where the route of an opening begins
 abbrev pub start_of : Event → Option Start
 start_of (OpenUse i path) = Some (UseAt i path)
 start_of (OpenExposed i name) = Some (ExposeAt i name)
 start_of _ = None
 
--- where rights are granted and rights are stated, those that are granted are within those that are stated
+-- the granted rights are within the stated ones, where both are there
 abbrev pub AreWithin : Option RightSet → Option RightSet → Type 0
 AreWithin (Some granted) (Some stated) = IsTrue (contains stated granted)
 AreWithin _ _ = Unit {0}
 
--- a provider that is an instance is on
+-- a provider that is an instance is on; the framework and builtins always are
 abbrev pub IsProviding : List Row → Provider → Type 0
 IsProviding rows (Instance i moniker) = IsTrue (is_on rows i)
 IsProviding rows _ = Unit {0}
 
--- an opening got a route of this world, from where its event says: its hops are those of the stations, its
--- provider is the one at their end and is on, and the rights that it grants are within all that a hop states
+-- an opening got a true route of this world: from where its event says, to a provider that is on, with
+-- no right that a hop of it doesn't state
 pub record IsStable (w : World) (event : Event) (r : Route) : Type 0 where
   pub begin : Start
   pub begins : start_of event ≡ Some begin
@@ -56,7 +56,7 @@ pub record IsStable (w : World) (event : Event) (r : Route) : Type 0 where
   pub on : IsProviding w.rows r.provider
   pub within : All (λ h. AreWithin r.rights h.rights) r.hops
 
--- each route that was opened is one in the world of that very entry
+-- each route that an entry of this history opened is a true one in the world of that very entry
 abbrev pub HasStableRoutes : Frame → List Entry → Type 0
 HasStableRoutes f es =
     OfEachEntry
@@ -64,7 +64,7 @@ HasStableRoutes f es =
 
 -- ---- actions
 
--- the action that begins with a reply
+-- the action that begins with this reply
 abbrev pub begun_by : Reply → Option ℕ
 begun_by (reply.Begun work) = Some work.action
 begun_by (reply.Stopping work) = Some work.action
@@ -75,37 +75,37 @@ abbrev pub joined_by : Reply → Option ℕ
 joined_by (reply.Joined a) = Some a
 joined_by _ = None
 
--- the action that an event ends
+-- the action that this event ends
 abbrev pub ended_by : Event → Option ℕ
 ended_by (End a finish) = Some a
 ended_by _ = None
 
--- the action whose outcome an event asks for
+-- the action whose outcome this event asks for
 abbrev pub awaited_by : Event → Option ℕ
 awaited_by (Await a) = Some a
 awaited_by _ = None
 
--- one of these entries began the action, for this caller
+-- one of these entries began the action, and its caller was this one
 pub record IsBegun (es : List Entry) (a caller : ℕ) : Type 0 where
   pub entry : Entry
   pub there : Contains es entry
   pub begins : begun_by entry.reply ≡ Some a
   pub own : entry.caller ≡ caller
 
--- one of these entries ended the action, with this outcome
+-- one of these entries ended the action with this outcome
 pub record IsEnded (es : List Entry) (a : ℕ) (o : Outcome) : Type 0 where
   pub entry : Entry
   pub there : Contains es entry
   pub ends : ended_by entry.event ≡ Some a
   pub replied : entry.reply ≡ reply.Ended o
 
--- the reply is the outcome that one of these entries ended the action with
+-- the reply is the outcome with which one of these entries ended the action
 pub record IsAwaited (es : List Entry) (a : ℕ) (r : Reply) : Type 0 where
   pub outcome : Outcome
   pub ended : IsEnded es a outcome
   pub replied : r ≡ reply.Ended outcome
 
--- what an entry says of actions fits the entries before it
+-- what an entry begins, joins, ends or awaits fits the entries before it
 pub record KeepsOutcomes (prefix : List Entry) (e : Entry) : Type 0 where
   -- no action begins twice, and none ends twice
   pub begins_once :

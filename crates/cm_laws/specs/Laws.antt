@@ -1,5 +1,6 @@
 -- Inside.
--- Laws of begins: who may end what was begun, and who may await it.
+-- Laws of begins: who may end what was begun, and who may await it. Calls rest on them between their
+-- turns.
 use Rattle.std.specs.Prelude.{◌≡◌, ℕ, List, [], filter, ◌==◌, IsTrue}
 use Rattle.std.specs.List.{list_any}
 use Rattle.cm_world.specs.declared.action.ActKind.{ActKind}
@@ -14,7 +15,7 @@ use Rattle.cm_world.specs.Step.{MayEnd, is_join}
 use Rattle.cm_world.specs.Legal.{Legal, replay}
 use Rattle.cm_laws.specs.Story.{Story, world_of, AddsEntry}
 
--- none of these entries is the caller's
+-- no entry among these is the caller's
 abbrev pub AreOthers : ℕ → List Entry → Type 0
 AreOthers caller es = filter (λ e. e.caller == caller) es ≡ []
 
@@ -22,21 +23,21 @@ AreOthers caller es = filter (λ e. e.caller == caller) es ≡ []
 abbrev pub IsJoined : World → ℕ → ℕ → Type 0
 IsJoined w caller a = IsTrue (list_any (is_join caller a) w.joins)
 
--- who began an action may end it then by any end that fits it
+-- who began an action may end it next, by any end that fits it
 abbrev pub BeginnersMayEnd : Type 0
 BeginnersMayEnd =
     (old new : Story) (caller i : ℕ) (kind : ActKind) (work : Work) (finish : Finish)
     → AddsEntry old new caller (Begin kind i) (reply.Begun work) → IsTrue (fits_kind kind finish)
     → HasValid finish → MayEnd (world_of new).acts caller work.action finish
 
--- who joined an action is joined then
+-- who was answered that it joined an action has joined it
 abbrev pub JoinersAreJoined : Type 0
 JoinersAreJoined =
     (old new : Story) (caller i a : ℕ) (kind : ActKind)
     → AddsEntry old new caller (Begin kind i) (reply.Joined a)
     → IsJoined (world_of new) caller a
 
--- and neither is changed by what others do
+-- what other callers do doesn't take a caller its right to end its action
 abbrev pub OthersLeaveEnds : Type 0
 OthersLeaveEnds =
     (w : World) (es : List Entry) (caller a : ℕ) (finish : Finish) → Legal w es → AreOthers caller es

@@ -12,30 +12,29 @@ use Rattle.cm_world.specs.World.{World, start}
 use Rattle.cm_world.specs.Legal.{replay}
 use Rattle.cm_order.specs.Laws.{CanStop}
 
--- a row that was once there, and is marked to be shut down or has left the tree
+-- a row that was once there is marked to be shut down, or has left the tree since
 pub record IsLeaving (w : World) (i : ℕ) : Type 0 where
   pub known : i < w.next_inc
   pub marked : IsTrue (not (is_live w.rows i) || has_closing w.rows i)
 
--- a row that was once there, and is marked to be destroyed or has left the tree
+-- a row that was once there is marked to be destroyed, or has left the tree since
 pub record IsDying (w : World) (i : ℕ) : Type 0 where
   pub known : i < w.next_inc
   pub marked : IsTrue (not (is_live w.rows i) || has_doomed w.rows i)
 
--- marked to be shut down, or, where doom is true, to be destroyed
+-- the row is marked to be shut down, and, where doom is true, to be destroyed; or it has left the tree
 abbrev pub IsMarked : Bool → World → ℕ → Type 0
 IsMarked doom w i = IsLeaving w i × (doom ≡ true → IsDying w i)
 
--- behind an entry that marks a row, or finds it marked, it is marked, then and in each later tree
+-- once an entry marks a row, or finds it marked, the row is marked then and in each later tree
 abbrev pub MarksHold : Frame → List Entry → Type 0
 MarksHold f es =
     (prefix mid rest : List Entry) (e : Entry) (i : ℕ) (doom : Bool) → es ≡ prefix ++ e ∷ (mid ++ rest)
     → e.event ≡ Mark doom i → (e.reply ≡ reply.Marked) ⊎ (e.reply ≡ reply.Already)
     → IsMarked doom (replay (start f) (prefix ++ e ∷ mid)) i
 
--- behind a pick that replied that all is done, all rows at and below its target are shut, then and in each
--- later tree, whether the target itself is marked or one above it; an incarnation that no row had had yet
--- isn't spoken of
+-- once a pick was answered that all is done, all at and below its target is shut, then and in each
+-- later tree; an incarnation that no row has had yet isn't spoken of
 abbrev pub DoneStaysShut : Frame → List Entry → Type 0
 DoneStaysShut f es =
     (prefix mid rest : List Entry) (e : Entry) (t : ℕ) → es ≡ prefix ++ e ∷ (mid ++ rest)
@@ -44,7 +43,8 @@ DoneStaysShut f es =
 
 -- ---- no dead end
 
--- in each tree on the way, where a row at or below a closing one isn't shut, some such row may stop
+-- a shutdown never comes to a dead end: in each tree on the way, as long as a row that is being shut
+-- down isn't shut, some such row may stop
 abbrev pub ShutdownGoesOn : Frame → List Entry → Type 0
 ShutdownGoesOn f es =
     (prefix rest : List Entry) (i : ℕ) (r : Row) → es ≡ prefix ++ rest

@@ -1,5 +1,6 @@
 -- Inside.
--- What the begin of an action, and a pick, came to, in the turns of one caller.
+-- What the begin of an action, and a pick, came to in the turns of one caller. `f` is what the realm
+-- was made with, `c` the caller, and h₀ and h₁ are the histories before and after.
 use Rattle.std.specs.Prelude.{◌≡◌, ◌≢◌, ℕ, List, Option, Some, None, Result, Ok, Err}
 use Rattle.std.specs.Prelude.{IsTrue, IsFalse}
 use Rattle.cm_world.specs.declared.action.ActKind.{ActKind}
@@ -29,7 +30,8 @@ use Rattle.cm_manager.specs.declared.began.PickTurn.TheVariants as picked
 use Rattle.cm_manager.specs.declared.began.Demand.{Demand}
 use Rattle.cm_manager.specs.declared.began.Demand.TheVariants as demand
 
--- it was begun and ended; only a start ends in Started, and only a stop has stopped the row
+-- the caller began the action and ended it; only a start ends in Started, and only a stop has stopped
+-- the row
 pub record EndsBegun (f : Frame) (c : ℕ) (k : ActKind) (i a : ℕ) (o : Outcome) (eager : List ℕ)
     (h₀ h₂ : List Entry) : Type 0 where
   pub work : Work
@@ -43,13 +45,14 @@ pub record EndsBegun (f : Frame) (c : ℕ) (k : ActKind) (i a : ℕ) (o : Outcom
   pub unstopped : k ≢ kind.Stop → IsFalse (is_stopped o)
   pub whole : k ≡ kind.Stop → IsTrue (is_stopped o)
 
--- it was joined and awaited
+-- the caller joined an action of another and awaited its end
 pub record Joins (f : Frame) (c : ℕ) (k : ActKind) (i a : ℕ) (o : Outcome) (h₀ h₂ : List Entry) : Type 0 where
   pub h₁ : List Entry
   pub asks : AddsWithinRoom f c h₀ (event.Begin k i) (reply.Joined a) h₁
   pub makes : AddsOneEntry c h₁ (event.Await a) (reply.Ended o) h₂
 
--- what a begin came to
+-- what a begin came to: it was begun and ended, was joined, had nothing to begin, needs a row resolved
+-- first, or the call ended
 abbrev pub BeginRun : Frame → ℕ → ActKind → ℕ → Result Began Refusal → List Entry → List Entry → Type 0
 BeginRun f c k i (Ok (began.Ended a o eager)) h₀ h₁ = EndsBegun f c k i a o eager h₀ h₁
 BeginRun f c k i (Ok (began.Joined a o)) h₀ h₁ = Joins f c k i a o h₀ h₁
@@ -59,32 +62,35 @@ BeginRun f c k i (Ok (began.Needs j)) h₀ h₁ =
     AddsWithinRoom f c h₀ (event.Begin k i) (reply.Need j) h₁ × (k ≡ kind.Start)
 BeginRun f c k i (Err x) h₀ h₁ = EndsWithoutEntry f c h₀ (event.Begin k i) h₁ x
 
--- how a start ends behind its eager children, which this may have ended
+-- what a start came to once its eager children are started: the refusal that ended the call among
+-- them, if one did
 abbrev pub behind_eager : ℕ → Option Refusal → Result ActionResult Refusal
 behind_eager a None = Ok (acted.Ended kind.Start a outcome.Started)
 behind_eager a (Some x) = Err x
 
--- what a start came to, which is over, or is made whole by whatever its eager children come to
+-- what a start came to: it is over; or it becomes a whole run together with whatever its eager
+-- children come to
 abbrev pub StartsBy : Frame → ℕ → ℕ → Launch → List Entry → List Entry → Type 0
 StartsBy f c i (launch.Settled went) h₀ h₁ = RunsAction f c kind.Start i h₀ h₁ went
 StartsBy f c i (launch.Children a eager) h₀ h₁ =
     (h₂ : List Entry) (end : Option Refusal) → StartsEager f c eager h₁ h₂ end
     → RunsAction f c kind.Start i h₀ h₂ (behind_eager a end)
 
--- the same of its begin alone, which may need that a row is resolved first
+-- what the begin of a start came to: the start as above, or a row that has to be resolved first
 abbrev pub LaunchesBy : Frame → ℕ → ℕ → Result Launch ℕ → List Entry → List Entry → Type 0
 LaunchesBy f c i (Ok started) h₀ h₁ = StartsBy f c i started h₀ h₁
 LaunchesBy f c i (Err j) h₀ h₁ = AddsWithinRoom f c h₀ (event.Begin kind.Start i) (reply.Need j) h₁
 
--- what one pick came to: all is done, or the call is cut, or the stops are made whole by whatever the later
--- picks come to
+-- what one pick came to: all is done, or the call ended; or it becomes a whole run of stops with
+-- whatever later picks come to
 abbrev pub PickRun : Frame → ℕ → ℕ → PickTurn → List Entry → List Entry → Type 0
 PickRun f c t picked.Done h₀ h₁ = AddsWithinRoom f c h₀ (event.Pick t) reply.Done h₁
 PickRun f c t picked.Further h₀ h₁ =
     (h₂ : List Entry) (end : Option Refusal) → Stops f c t h₁ h₂ end → Stops f c t h₀ h₂ end
 PickRun f c t (picked.Cut x) h₀ h₁ = EndsWithoutEntry f c h₀ (event.Pick t) h₁ x
 
--- how a reply is read: as the action that it asks for, or as what decides its event
+-- how a reply is read: as asking for an action before its event can be decided, or as the one that
+-- decides it
 abbrev pub ReadsBy : Reply → Demand → Type 0
 ReadsBy r (demand.Action k j) = needed r ≡ Some (k, j)
 ReadsBy r (demand.Decided s) = (s ≡ r) × (needed r ≡ None)

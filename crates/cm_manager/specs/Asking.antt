@@ -1,5 +1,5 @@
 -- Inside.
--- What a turn gives, whose event may get any reply.
+-- What one turn of a caller gives: the entry of its event, or why there is none.
 use Rattle.std.specs.Prelude.{◌≡◌, ℕ, List, [], ◌∷◌, ◌++◌, Bool, true, false, Option, Some, None, Result, Ok}
 use Rattle.std.specs.Prelude.{Err, IsTrue}
 use Rattle.cm_turn.specs.History.{StartsWith}
@@ -27,21 +27,22 @@ use Rattle.cm_manager.specs.Contract.{RealmPass}
 
 -- ---- passes
 
--- the frame of a realm with nothing in it
+-- what a realm is made with that has nothing, for where no pass tells it
 abbrev pub no_frame : Frame
 no_frame = record { root = []; builtins = []; limits = record { rows = 0; entries = 0 } }
 
+-- what a realm was made with, if it is told
 abbrev pub frame_in : Option Frame → Frame
 frame_in (Some f) = f
 frame_in None = no_frame
 
--- the frame of a pass, which always has one
+-- what the realm of a pass was made with; every pass tells it
 abbrev pub frame_of : RealmPass → Frame
 frame_of p = frame_in p.frame
 
 -- ---- one event at a realm
 
--- the events that a call asks for, each of which may get more than one reply
+-- whether an event is one that a call asks for, which may get more than one kind of reply
 abbrev pub is_asked : Event → Bool
 is_asked (event.Find m) = true
 is_asked (event.Begin kind i) = true
@@ -59,66 +60,70 @@ is_asked (event.Exited i) = true
 is_asked (event.Reap i) = true
 is_asked _ = false
 
--- and those of them that may come at any time and begin no action themselves
+-- whether an event may come at any time and begins no action, as every one does but begins, picks and
+-- purges
 abbrev pub is_plain : Event → Bool
 is_plain (event.Begin kind i) = false
 is_plain (event.Pick t) = false
 is_plain (event.Purge i) = false
 is_plain _ = true
 
--- what a caller has to have seen before it makes an event: that the target of a pick is leaving, and that
--- what it purges is to be destroyed, and shut with all below it
+-- what a caller has to have seen before it makes an event: that the target of a pick is leaving; that
+-- what it purges is marked to be destroyed and shut with all below it
 abbrev pub IsDue : World → Event → Type 0
 IsDue w (event.Pick t) = IsLeaving w t
 IsDue w (event.Purge i) = IsMarked true w i × IsShutBelow w i
 IsDue w _ = Unit {0}
 
--- what the tree has to allow of it then
+-- what the tree has to allow before such an event may be made
 abbrev pub TreeAllows : World → Event → Type 0
 TreeAllows w (event.Pick t) = IsTrue (may_close w.rows t)
 TreeAllows w (event.Purge i) = IsTrue (may_purge w.rows i)
 TreeAllows w _ = Unit {0}
 
--- what is due stays due, whatever callers do
+-- what a caller has seen of it stays true, whatever other callers do
 abbrev pub DueStays : Type 0
 DueStays =
     (f : Frame) (e : Event) (seen found : List Entry) → Legal (start f) found → StartsWith found seen
     → IsDue (world_after f seen) e → IsDue (world_after f found) e
 
--- and the tree allows it
+-- where a caller has seen it, the tree allows the event
 abbrev pub DueIsOpen : Type 0
 DueIsOpen = (w : World) (e : Event) → IsDue w e → TreeAllows w e
 
--- an event is only refused for want of room where the room is too small
+-- a step that is told as lacking room really lacks it
 abbrev pub RefusesRoom : Story → ℕ → NoStep → Type 0
 RefusesRoom s more nostep.HistoryFull = LacksRoom s more
 RefusesRoom s more _ = Unit {0}
 
--- an event has to wait for this action, which stands in its own way; but for these three, none ever waits
+-- an event has to wait for this action, which is pending in its way; only begins, picks and exits ever
+-- wait
 abbrev pub EventWaitsFor : World → Event → ℕ → Type 0
 EventWaitsFor w (event.Begin kind i) a = WaitsToBegin w kind i a
 EventWaitsFor w (event.Pick t) a = WaitsToPick w t a
 EventWaitsFor w (event.Exited i) a = WaitsToExit w i a
 EventWaitsFor w _ a = ⊥
 
--- an event is only held up by an action that it has to wait for
+-- a step that is told as busy has to wait for that action
 abbrev pub IsBusy : World → Event → NoStep → Type 0
 IsBusy w e (nostep.Busy a) = EventWaitsFor w e a
 IsBusy w e _ = Unit {0}
 
--- the event is told, for which there was room; or the realm is as before, and the refusal is a true one
+-- a step of the realm: the event has its entry, for which there was room; or the realm is as before,
+-- and the refusal is true
 abbrev pub StepsBy : Story → Story → ℕ → Event → Result Reply NoStep → Type 0
 StepsBy old new c e (Ok r) = AddsEntry old new c e r × RealmHasRoom old (need e)
 StepsBy old new c e (Err x) = (new ≡ old) × RefusesRoom old (need e) x
 
--- the outcome of an action is told to a caller that joined it; or it has none, and the realm is as before
+-- an await at the realm: a caller that joined the action has its outcome; or there is none yet, and
+-- the realm is as before
 abbrev pub AwaitsBy : Story → Story → ℕ → ℕ → Option Outcome → Type 0
 AwaitsBy old new c a (Some o) = AddsEntry old new c (event.Await a) (reply.Ended o)
 AwaitsBy old new c a None = new ≡ old
 
 -- ---- one turn
 
--- the refusal of a call that a step was refused so; a call that meets another action goes on
+-- what a refused step means for a call: one that meets another action goes on, and all others end
 abbrev pub IsCallRefusal : Frame → ℕ → List Entry → Event → List Entry → NoStep → Type 0
 IsCallRefusal f c old e new (nostep.Busy a) = IsLaterHistory c old new
 IsCallRefusal f c old e new nostep.HistoryFull = EndsWithoutEntry f c old e new refusal.HistoryFull
@@ -132,7 +137,7 @@ Turned e old new (Ok r) =
 Turned e old new (Err x) = IsCallRefusal (frame_of old) old.caller old.seen e new.seen x
     × (new.mine ≡ old.mine)
 
--- turns until the event has an entry, or the call is cut
+-- turns until the event has its entry, or the call ends
 abbrev pub RecordsEvent : Event → RealmPass → RealmPass → Result Reply Refusal → Type 0
 RecordsEvent e old new (Ok r) =
     AddsWithinRoom (frame_of old) old.caller old.seen e r new.seen
@@ -140,17 +145,17 @@ RecordsEvent e old new (Ok r) =
 RecordsEvent e old new (Err x) = EndsWithoutEntry (frame_of old) old.caller old.seen e new.seen x
     × (new.mine ≡ old.mine)
 
--- turns until a row is purged, now or before as the reply says, or the call is cut
+-- turns until a row is purged, now or before, or the call ends
 abbrev pub Purged : ℕ → RealmPass → RealmPass → Option Refusal → Type 0
 Purged i old new None = (r : Reply) × RecordsEvent (event.Purge i) old new (Ok r)
 Purged i old new (Some x) = RecordsEvent (event.Purge i) old new (Err x)
 
--- one turn with an entry of this event and its outcome, which needs no room
+-- one turn that adds the entry of this event with this outcome, for which room was kept
 pub record RecordsOutcome (old new : RealmPass) (e : Event) (o : Outcome) : Type 0 where
   pub makes : AddsOneEntry old.caller old.seen e (reply.Ended o) new.seen
   pub mine : new.mine ≡ old.mine ++ entry_of old.caller e (reply.Ended o) ∷ []
 
--- one turn that awaits an action
+-- one turn that awaits an action: it adds the entry with the outcome, or finds that there is none yet
 abbrev pub Awaited : ℕ → RealmPass → RealmPass → Option Outcome → Type 0
 Awaited a old new (Some o) = RecordsOutcome old new (event.Await a) o
 Awaited a old new None = IsLaterHistory old.caller old.seen new.seen × (new.mine ≡ old.mine)

@@ -1,5 +1,5 @@
 -- Inside.
--- The run of each call.
+-- What of a history is a whole call.
 use Rattle.std.specs.Prelude.{◌≡◌, ℕ, List, ◌++◌, Result}
 use Rattle.cm_turn.specs.History.{StartsWith}
 use Rattle.cm_world.specs.declared.frame.Frame.{Frame}
@@ -13,7 +13,7 @@ use Rattle.cm_command.specs.declared.command.Command.{Command}
 use Rattle.cm_manager.specs.Turns.{own_entries}
 use Rattle.cm_manager.specs.Calls.{Calls}
 
--- these entries of the caller, in a legal history, are a whole call with this answer
+-- these entries of the caller, in a legal history, are one whole call of this command with this answer
 pub record Runs (f : Frame) (history : List Entry) (cmd : Command) (c : ℕ) (part : List Entry)
     (a : Result Answer Refusal) : Type 0 where
   pub legal : Legal (start f) history

@@ -1,5 +1,5 @@
 -- Inside.
--- Parts in which nothing is left open.
+-- A caller's own entries in which nothing is left open, as calls leave them.
 use Rattle.std.specs.Prelude.{◌≡◌, ℕ, List, [], ◌∷◌, ◌++◌, Option, Some, None}
 use Rattle.cm_world.specs.declared.action.ActKind.{ActKind}
 use Rattle.cm_world.specs.declared.reply.Entry.{Entry}
@@ -13,12 +13,12 @@ use Rattle.cm_turn.specs.History.{StartsWith}
 use Rattle.cm_manager.specs.Turns.{own_entries}
 use Rattle.cm_manager.specs.Work.{begins}
 
--- the action that an entry joins
+-- the action that an entry joins, if it joins one
 abbrev pub joins : Event → Reply → Option ℕ
 joins (event.Begin k i) (reply.Joined a) = Some a
 joins _ _ = None
 
--- each action that is begun has its End behind it, and each join its Await
+-- each entry that begins an action is followed by its end, and each that joins one by its await
 pub data IsClosed : List Entry → Type 0 where
   empty : IsClosed []
   plain : {e : Entry} {es : List Entry}
@@ -37,7 +37,7 @@ pub data IsClosed : List Entry → Type 0 where
       → IsClosed es
       → IsClosed (e ∷ e' ∷ es)
 
--- from h to h₁ the caller made a part that is closed
+-- between the two histories the caller made entries that are closed so
 pub record AddsClosedPart (c : ℕ) (h h₁ : List Entry) : Type 0 where
   pub part : List Entry
   pub grows : StartsWith h₁ h

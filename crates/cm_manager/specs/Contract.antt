@@ -16,16 +16,16 @@ use Rattle.cm_manager.specs.Calls.{Calls}
 use Rattle.cm_manager.specs.Work.{Manifests, WorksWith}
 use Rattle.cm_manager.specs.ClosedInside.{IsClosed}
 
--- a pass of a realm
+-- the pass by which a caller takes its turns at a realm
 abbrev pub RealmPass : Type 0
 RealmPass = PassView Entry Frame
 
--- gates as contracts see them: the log that they tell, and their count of faults
+-- gates to the outside as contracts see them: the log that they tell, and their count of faults
 pub record GatesView : Type 0 where
   pub log : Option (List GateCall)
   pub faults : ℕ
 
--- the pass is the same one, and has seen a later, legal history
+-- the pass is the same one, and has seen a later, legal history, with all entries of its own
 pub record IsSamePass (f : Frame) (old new : RealmPass) : Type 0 where
   pub lock : new.lock ≡ old.lock
   pub frame : new.frame ≡ old.frame
@@ -34,7 +34,8 @@ pub record IsSamePass (f : Frame) (old new : RealmPass) : Type 0 where
   pub own : new.mine ≡ own_entries new.caller new.seen
   pub legal : Legal (start f) new.seen
 
--- a way of its own from what the pass had seen to what it has seen then, with the work of its part
+-- a part of a call: it takes this way from what the pass had seen to what it has seen then, and the
+-- gates do the work of its entries
 pub record IsSubcall (manifests : Manifests) (f : Frame) (CallWay : List Entry → List Entry
     → Type 0) (old new : RealmPass)
     (gates₀ gates₁ : GatesView) : Type 0 where
@@ -45,8 +46,8 @@ pub record IsSubcall (manifests : Manifests) (f : Frame) (CallWay : List Entry �
   pub closed : IsClosed part
   pub work : WorksWith manifests part gates₀.log gates₁.log gates₀.faults gates₁.faults
 
--- one call of the manager, with its answer; one that has made all its entries isn't answered with lack of
--- memory, but for a doctor, which may want for it behind its last line
+-- one call of the manager with its answer. One that has made all its entries isn't answered with lack
+-- of memory, but for `doctor`, which may lack it after its last line
 abbrev pub IsWholeCall : Manifests → Frame → Command → RealmPass → RealmPass → GatesView → GatesView
     → Result Answer Refusal → Type 0
 IsWholeCall manifests f command old new gates₀ gates₁ a =

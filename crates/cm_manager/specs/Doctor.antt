@@ -1,7 +1,5 @@
 -- Promised.
--- The run of a check of all routes: a survey of a row, and the routes of all paths that the rows of the
--- survey use.
--- ---- from history to history
+-- The run of `doctor`: a survey of a row, and the routes of all paths that the surveyed rows use.
 use Rattle.std.specs.Prelude.{◌≡◌, ℕ, List, [], ◌∷◌, Result, Ok, Err, IsTrue}
 use Rattle.std.specs.Prelude.{IsFalse}
 use Rattle.cm_world.specs.declared.frame.Frame.{Frame}
@@ -17,7 +15,9 @@ use Rattle.cm_manager.specs.Runs.{RetriesEvent}
 use Rattle.cm_answers.specs.Lines.{doctored_by, in_prefix, line_of, route_by}
 use Rattle.cm_answers.specs.Lines.{surveyed_by, unresolved_line}
 
--- a way from one history to a later one, with the lines that it makes or what ended the call in it
+-- ---- from history to history
+
+-- a run of a part of `doctor`, with the lines that it makes or what ended the call in it
 abbrev pub Checks : Type 1
 Checks = List Entry → List Entry → Result (List Checked) Refusal → Type 0
 
@@ -36,18 +36,19 @@ pub data GathersEach {A : Type 0} (Item : A → Checks)
   cut_item : {x : A} {xs : List A} {h₀ h₁ : List Entry} {e : Refusal}
       → Item x h₀ h₁ (Err e)
       → GathersEach Item (x ∷ xs) h₀ h₁ (Err e)
-  -- memory is wanting behind it
+  -- memory runs out after it
   lost_item : {x : A} {xs : List A} {h₀ h₁ : List Entry} {lines : List Checked}
       → Item x h₀ h₁ (Ok lines)
       → GathersEach Item (x ∷ xs) h₀ h₁ (Err refusal.Memory)
 
--- a path of a row: its route is asked for at the row's incarnation, and its line has the row's moniker
+-- one use of a row: its route is asked for at the row's incarnation, and its line has the row's
+-- moniker
 abbrev pub OfPath : Frame → ℕ → SurveyRow → List ℕ → Checks
 OfPath f c row p h₀ h₁ end =
     (went : Result Reply Refusal) × RetriesEvent f c (event.Route row.inc p) h₀ h₁ went
     × (end ≡ line_of row.moniker p (route_by went))
 
--- a row of a survey
+-- one row of the survey: a line for each use, or one that says that it isn't resolved
 pub data OfRow (f : Frame) (c : ℕ) (row : SurveyRow)
     : List Entry → List Entry → Result (List Checked) Refusal → Type 0 where
   -- where it isn't resolved it has one line, and no event is made
@@ -60,7 +61,7 @@ pub data OfRow (f : Frame) (c : ℕ) (row : SurveyRow)
       → GathersEach (OfPath f c row) row.paths h₀ h₁ end
       → OfRow f c row h₀ h₁ end
 
--- the check of the row of this incarnation
+-- the run of `doctor` at the row of this incarnation
 pub data Doctors (f : Frame) (c i : ℕ) : List Entry → List Entry → Result Answer Refusal → Type 0 where
   -- it is surveyed, and then each row of the survey has its lines
   surveyed : {h₀ h₁ h₂ : List Entry} {went : Result Reply Refusal} {rows : List SurveyRow}

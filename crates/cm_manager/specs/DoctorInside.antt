@@ -1,7 +1,5 @@
 -- Inside.
--- The run of a check of all routes: a survey of a row, and the routes of all paths that the rows of the
--- survey use.
--- ---- from history to history
+-- What the functions promise that gather the lines of `doctor`.
 use Rattle.std.specs.Prelude.{◌≡◌, ℕ, List, Result}
 use Rattle.cm_world.specs.declared.frame.Frame.{Frame}
 use Rattle.cm_world.specs.declared.event.Event.TheVariants as event
@@ -16,17 +14,17 @@ use Rattle.cm_answers.specs.LinesInside.{AddsLines}
 use Rattle.cm_answers.specs.Lines.{surveyed_by}
 use Rattle.cm_manager.specs.Doctor.{Checks}
 
--- by this rule, with the lines from before in front, unless memory runs out behind it
+-- by this rule, after these lines, unless memory runs out after it
 abbrev pub Adding : Checks → List Checked → Checks
 Adding Rule lines h₀ h₁ end = (more : Result (List Checked) Refusal) × Rule h₀ h₁ more
     × AddsLines lines more end
 
--- by this rule, with the lines from before in front
+-- by this rule, after these lines
 abbrev pub Gathering : Checks → List Checked → Checks
 Gathering Rule lines h₀ h₁ end =
     (more : Result (List Checked) Refusal) × Rule h₀ h₁ more × (end ≡ in_prefix lines more)
 
--- the rows of a survey that was tried
+-- the rows of a survey, or what ended the call
 abbrev pub Surveying : Frame → ℕ → ℕ → List Entry → List Entry → Result (List SurveyRow) Refusal → Type 0
 Surveying f c i h₀ h₁ rows =
     (went : Result Reply Refusal) × RetriesEvent f c (event.Survey i) h₀ h₁ went × (rows ≡ surveyed_by went)

@@ -26,25 +26,25 @@ use Rattle.cm_manager.specs.Contract.{GatesView}
 
 -- ---- manifests
 
--- how a resolve ends where its manifest isn't read
+-- the outcome of a resolve whose manifest can't be read
 abbrev pub unread_outcome : ReadFault → Outcome
 unread_outcome (read.Bad number section index field) =
     outcome.Invalid (record { number = number; section = section; index = index })
 unread_outcome read.Memory = outcome.NoMemory
 
--- and where its declaration isn't valid
+-- the outcome of a resolve whose declaration isn't valid
 abbrev pub invalid_outcome : ValidFault → Outcome
 invalid_outcome (valid.Bad number section index against cycle) =
     outcome.Invalid (record { number = number; section = section; index = index })
 invalid_outcome valid.Memory = outcome.NoMemory
 
--- the declaration of a manifest, or its fault; or memory was wanting
+-- the declaration of a manifest, or the outcome for its fault; or memory ran out
 abbrev pub JudgesBy : List ℕ → Result Decl Outcome → Type 0
 JudgesBy bytes (Ok d) = Judges bytes (Ok d)
 JudgesBy bytes (Err o) =
     (o ≡ outcome.NoMemory) ⊎ ((note : FaultNote) × (o ≡ outcome.Invalid note) × Judges bytes (Err note))
 
--- the end of a resolve by the manifest of this URL, or by lack of memory
+-- the end of a resolve by the manifest that was found under this URL; or memory ran out
 abbrev pub EndsBy : List ℕ → List ℕ → Finish → Type 0
 EndsBy url bytes end =
     ((judged : Result Decl FaultNote) × Judges bytes judged × (end ≡ resolved_by url judged))
@@ -52,29 +52,31 @@ EndsBy url bytes end =
 
 -- ---- questions
 
--- the job of a work, which has none where the instance has no program
+-- what a runner is asked for this work; nothing, where the instance has no program
 abbrev pub HasJob : Work → Option Job → Type 0
 HasJob w None = w.runner ≡ None
 HasJob w (Some job) = (runner : List ℕ) × (w.runner ≡ Some runner) × (job ≡ job_of w runner)
 
+-- the outcome of a start by the runner's answer
 abbrev pub launched_outcome : Launched → Outcome
 launched_outcome launched.Running = outcome.Started
 launched_outcome launched.Declined = outcome.Declined
 launched_outcome launched.Failed = outcome.GateFailed
 
+-- the outcome of a stop by the runner's answer; one that failed counts as a stop by force
 abbrev pub halted_outcome : Halted → Outcome
 halted_outcome halted.Stopped = outcome.Stopped
 halted_outcome halted.Failed = outcome.Killed
 
 -- ---- the whole work
 
--- an end that fits the action, with a valid declaration if it brings one
+-- the end is one that fits this kind of action, and a declaration that it brings is valid
 pub record FitsAction (kind : ActKind) (end : Finish) : Type 0 where
   pub fitting : IsTrue (fits_kind kind end)
   pub valid : HasValid end
 
--- the work was done: what the gates were asked for it is in their log, if that is told, and a failure in
--- their count
+-- the work was done: what the gates were asked for it is in their log, if that is told, and a failure
+-- in their count
 pub record Did (manifests : Manifests) (w : Work) (kind : ActKind) (end : Finish)
     (old new : GatesView) : Type 0 where
   pub asked : List GateCall

@@ -1,5 +1,5 @@
 -- Promised.
--- Commands that a caller performs, one after another.
+-- Commands that a caller performs one after another.
 use Rattle.std.specs.Prelude.{ℕ, List, [], ◌∷◌, Result}
 use Rattle.cm_world.specs.declared.answer.Answer.{Answer}
 use Rattle.cm_world.specs.declared.answer.Refusal.{Refusal}
@@ -14,7 +14,8 @@ pub record Done : Type 0 where
   pub command : Command
   pub result : Result Answer Refusal
 
--- a caller performs these commands in order, each by one call, and makes no entry besides
+-- between two places of the history a caller performs these commands in order, each by one call, and
+-- adds no entry besides
 pub data PerformsCommands (f : Frame) (c : ℕ) : List Done → List Entry → List Entry → Type 0 where
   rests : {h₀ h₁ : List Entry} → IsLaterHistory c h₀ h₁ → PerformsCommands f c [] h₀ h₁
   performs : {d : Done} {others : List Done} {h₀ h₁ h₂ : List Entry}

@@ -1,5 +1,5 @@
 -- Inside.
--- What contracts say of a call with gates, by their log and their count of faults.
+-- What contracts say of calls with gates, through the ghost members of the gates.
 use Rattle.std.specs.Prelude.{ℕ, List, Option, Result}
 use Rattle.cm_world.specs.declared.action.ActKind.{ActKind}
 use Rattle.cm_world.specs.declared.action.Finish.{Finish}
@@ -18,29 +18,29 @@ use Rattle.cm_manager.specs.Parts.{FindsTarget}
 use Rattle.cm_manager.specs.Work.{Manifests}
 
 module _ {G : Type 0} (log_of : G → Option (List GateCall)) (faults_of : G → ℕ) where
-  -- gates as contracts see them
+  -- gates as contracts see them: their log and their count of faults
   abbrev pub gates_view : G → GatesView
   gates_view g = record { log = log_of g; faults = faults_of g }
 
-  -- a way of the pass's caller in the pass's frame, with the work of these gates
+  -- a part of a call by the pass's caller, with the work of these gates
   abbrev pub HelpsWith : Manifests → (Frame → ℕ → List Entry → List Entry → Type 0) → RealmPass → RealmPass
       → G → G → Type 0
   HelpsWith manifests CallWay old new gates₀ gates₁ =
       IsSubcall manifests (frame_of old) (CallWay (frame_of old) old.caller) old new
       (gates_view gates₀) (gates_view gates₁)
 
-  -- one call of the manager
+  -- one whole call of the manager, with the work of these gates
   abbrev pub PerformsWith : Manifests → Command → RealmPass → RealmPass → G → G → Result Answer Refusal
       → Type 0
   PerformsWith manifests command old new gates₀ gates₁ a =
       IsWholeCall manifests (frame_of old) command old new (gates_view gates₀) (gates_view gates₁) a
 
-  -- the row of a target is found
+  -- the row of a target is found, with the work of these gates
   abbrev pub FindsWith : Manifests → Target → RealmPass → RealmPass → G → G → Result ℕ Refusal → Type 0
   FindsWith manifests target old new gates₀ gates₁ row =
       FindsTarget manifests (frame_of old) target old new (gates_view gates₀) (gates_view gates₁) row
 
-  -- the work of an action
+  -- the work of an action was done by these gates
   abbrev pub DidWith : Manifests → Work → ActKind → Finish → G → G → Type 0
   DidWith manifests w kind end gates₀ gates₁ =
       Did manifests w kind end (gates_view gates₀) (gates_view gates₁)

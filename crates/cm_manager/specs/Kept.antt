@@ -14,20 +14,21 @@ use Rattle.cm_manager.specs.Work.{Manifests, WorksWith}
 use Rattle.cm_manager.specs.Contract.{RealmPass, GatesView}
 pub use Rattle.cm_manager.specs.Gated.{gates_view}
 
--- the passes of the sixteen callers, from 0 on
+-- the passes of this lock for the sixteen callers, in order from 0 on
 pub record AreSixteen (turn : LockView) (passes : List RealmPass) : Type 0 where
   pub lock : All (λ p. p.lock ≡ turn.lock) passes
   pub callers : map (λ p. p.caller) passes ≡ range_with_len 0 16
 
--- a pass's entries are those of its caller in what it has seen
+-- a pass knows all entries of its caller in what it has seen as its own
 abbrev pub IsOwnPass : RealmPass → Type 0
 IsOwnPass p = own_entries p.caller p.seen ≡ p.mine
 
--- the frame of the pass at a place
+-- what the realm of the pass at place k was made with
 abbrev pub frame_at : List RealmPass → ℕ → Frame
 frame_at passes k = elim (slice_get passes k) as (λ _. Frame) [ None ↦ no_frame | Some p ↦ frame_of p ]
 
--- the pass is the same one and has seen more, and its new entries are whole calls, with the work of its gates
+-- the pass is the same one and has seen more, and its new entries are whole calls, with the work of
+-- its gates
 pub record KeepsPass (manifests : Manifests) (old new : RealmPass) (gates₀ gates₁ : GatesView) : Type 0 where
   pub lock : new.lock ≡ old.lock
   pub frame : new.frame ≡ old.frame
@@ -39,13 +40,13 @@ pub record KeepsPass (manifests : Manifests) (old new : RealmPass) (gates₀ gat
   pub closed : IsClosed part
   pub work : WorksWith manifests part gates₀.log gates₁.log gates₀.faults gates₁.faults
 
--- a history goes on from what a pass has seen, and has the pass's entries as its caller's
+-- a history goes on from what a pass has seen, with no further entry of its caller
 pub record ExtendsPass (history : List Entry) (p : RealmPass) : Type 0 where
   pub grows : StartsWith history p.seen
   pub own : own_entries p.caller history ≡ p.mine
 
 module _ {G : Type 0} (log_of : G → Option (List GateCall)) (faults_of : G → ℕ) where
-  -- each lane's pass and gates are kept, in their order
+  -- each pass and its gates are kept so, in their order
   pub record KeepsEach (manifests : Manifests) (old new : List RealmPass)
       (gates₀ gates₁ : List G) : Type 0 where
     pub passes : length new ≡ length old

@@ -20,7 +20,7 @@ pub record IsRemoved (w : World) (i : ℕ) : Type 0 where
   pub known : i < w.next_inc
   pub gone : IsFalse (is_live w.rows i)
 
--- the row that a call found for its target on its way, and what holds of it in the tree behind the call
+-- the row that a call found for its target on its way, and what holds of it in the tree after the call
 pub record LeavesRow (f : Frame) (c : ℕ) (t : Target) (Holds : World → ℕ → Type 0) (h₀ h₁ : List Entry)
     : Type 0 where
   pub row : ℕ
@@ -29,16 +29,16 @@ pub record LeavesRow (f : Frame) (c : ℕ) (t : Target) (Holds : World → ℕ �
   pub within : StartsWith h₁ found_at
   pub holds : Holds (world_after f h₁) row
 
--- a command that is answered well, whatever the answer, leaves this of the row
+-- this command, answered well with whatever answer, leaves this of its row
 abbrev pub LeavesSo : (Target → Command) → (World → ℕ → Type 0) → Type 0
 LeavesSo command_on Holds =
     (f : Frame) (c : ℕ) (t : Target) (h₀ h₁ : List Entry) (a : Answer) → Legal (start f) h₁
     → RunsOrLoses f c (command_on t) h₀ h₁ (Ok a) → LeavesRow f c t Holds h₀ h₁
 
--- behind a shutdown all rows at and below its row are shut
+-- after a shutdown all rows at and below its row are shut
 abbrev pub ShutdownsLeaveShut : Type 0
 ShutdownsLeaveShut = LeavesSo command.Shutdown IsShutBelow
 
--- behind a destruction its row is removed
+-- after a destruction its row is removed
 abbrev pub DestructionsRemove : Type 0
 DestructionsRemove = LeavesSo command.Destroy IsRemoved

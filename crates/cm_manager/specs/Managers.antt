@@ -13,14 +13,14 @@ use Rattle.cm_manager.specs.Turns.{world_after}
 use Rattle.cm_manager.specs.Contract.{RealmPass}
 use Rattle.cm_manager.specs.Work.{Manifests}
 
--- the lock round its realm, and where it looks for manifests
+-- a manager as contracts see it: the lock round its realm, and where it looks for manifests
 pub record ManagerView : Type 0 where
   pub turn : LockView
   pub manifests : Manifests
 
--- a history that bears these passes out: it is legal in their frame, begins with what each has seen, has
--- those entries of each caller that its pass has, and no entry of anybody else. It keeps the laws of every
--- legal history
+-- a history that bears these passes out: it is legal in the frame that they tell, begins with what
+-- each has seen, has those entries of each caller that its pass knows, and no entry of anybody else.
+-- It keeps the laws of every legal history
 pub record BearsPassesOut (history : List Entry) (passes : List RealmPass) : Type 0 where
   pub story : Story
   pub entries : history ≡ story.entries
@@ -30,8 +30,8 @@ pub record BearsPassesOut (history : List Entry) (passes : List RealmPass) : Typ
   pub callers : All (λ (e : Entry). HasCaller passes e.caller) history
   pub laws : KeepsLaws story.frame history
 
--- the book of a realm with this frame: it takes as many entries as the frame says, and keeps room for those
--- that are owed
+-- the book that a realm with this frame leaves: it takes as many entries as the frame says, and keeps
+-- room for those that are owed
 pub record IsBookOf (f : Frame) (book : History) : Type 0 where
   pub limit : book.limit ≡ f.limits.entries
   pub reserved : book.reserved ≡ owed_by (world_after f book.entries)

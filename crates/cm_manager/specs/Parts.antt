@@ -9,7 +9,7 @@ use Rattle.cm_manager.specs.Calls.{Finding}
 use Rattle.cm_manager.specs.Work.{Manifests}
 use Rattle.cm_manager.specs.Contract.{RealmPass, GatesView, IsSubcall}
 
--- an incarnation is taken as it stands, and nothing is done; a moniker is looked for
+-- the row of a target is found: an incarnation names it, and nothing is done; a moniker is looked up
 abbrev pub FindsTarget : Manifests → Frame → Target → RealmPass → RealmPass → GatesView → GatesView
     → Result ℕ Refusal
     → Type 0

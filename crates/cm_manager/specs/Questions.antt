@@ -1,5 +1,5 @@
 -- Inside.
--- What that comes to which a call asks of the instance that its target names.
+-- The runs of calls by what they ask of the instance that their target names.
 use Rattle.std.specs.Prelude.{ℕ, false, Option, Result}
 use Rattle.cm_world.specs.declared.answer.Answer.{Answer}
 use Rattle.cm_world.specs.declared.answer.Answer.TheVariants as answer
@@ -18,17 +18,17 @@ use Rattle.cm_manager.specs.Shutdowns.{Shuts, Destroys}
 use Rattle.cm_answers.specs.AnswersInside.{answer_by}
 use Rattle.cm_answers.specs.Questions.{event_for}
 
--- what comes behind the reply to a request
+-- what follows the reply to a request of a row
 abbrev pub FollowsBy : Frame → ℕ → Request → ℕ → Reply → CallWay (Option Refusal)
 FollowsBy f c (request.Create coll name url gives) = OnceCreated f c
 FollowsBy f c request.Exited = SweptLeft f c
 FollowsBy f c _ = λ i r. Nothing
 
--- a request of a row, and what follows it
+-- the run of a request of a row, with what follows it
 abbrev pub Requested : Frame → ℕ → Request → ℕ → CallWay (Result Answer Refusal)
 Requested f c r = CallsEventThen f c (event_for r) (FollowsBy f c r)
 
--- what a question of a row comes to
+-- the run of what a call asks of a row, with the answer
 abbrev pub AnswersTo : Frame → ℕ → Question → ℕ → CallWay (Result Answer Refusal)
 AnswersTo f c (question.Act k) = CallsAction f c k (answer_by k)
 AnswersTo f c question.Shutdown = λ i. ComesToAnswer answer.Shut (Shuts f c false i)

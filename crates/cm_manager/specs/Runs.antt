@@ -1,6 +1,6 @@
 -- Promised.
--- What a call does between its first turn and its last, as rules. Each fact tells from which history to which
--- later one it goes, and how it ended.
+-- What a call does between its first turn and its last, as rules. Each tells from which history to
+-- which later one it goes, and how it ended.
 use Rattle.std.specs.Prelude.{◌≡◌, ℕ, List, [], ◌∷◌, Bool, true, false, ◌||◌, Option, Some, None, Result, Ok}
 use Rattle.std.specs.Prelude.{Err, IsTrue, IsFalse}
 use Rattle.cm_world.specs.declared.frame.Frame.{Frame}
@@ -24,30 +24,31 @@ use Rattle.cm_manager.specs.Turns.{world_after}
 use Rattle.cm_answers.specs.Answers.{ends_call, ends_eager}
 use Rattle.cm_manager.specs.Sweeps.{Sweeps}
 
--- the action that a reply asks for before its event can be decided
+-- the action that a reply asks for before its event can be decided, if it does
 abbrev pub needed : Reply → Option (ActKind × ℕ)
 needed (reply.Need j) = Some (kind.Resolve, j)
 needed (reply.NeedStart s) = Some (kind.Start, s)
 needed _ = None
 
--- a reply to a begin that has nothing to begin
+-- whether a reply to a begin says that there is nothing to begin
 abbrev pub is_quiet : Reply → Bool
 is_quiet reply.Already = true
 is_quiet (reply.Gone i) = true
 is_quiet (reply.Shut i) = true
 is_quiet _ = false
 
+-- whether an action has started its row
 abbrev pub is_started : Outcome → Bool
 is_started outcome.Started = true
 is_started _ = false
 
--- whether something follows such an end: a start's eager children, or the removal of what went with a
--- stopped row
+-- whether something follows an action's end: a start's eager children, or the removal of what goes
+-- with a stopped row
 abbrev pub is_followed : Outcome → Bool
 is_followed o = is_started o || is_stopped o
 
 mutual
-  -- an action of this kind on a row
+  -- an action of this kind on a row, from its begin to what follows its end
   pub data RunsAction (f : Frame) (c : ℕ)
       : ActKind → ℕ → List Entry → List Entry → Result ActionResult Refusal → Type 0 where
     -- it is begun and ended, and nothing follows its end
@@ -127,7 +128,7 @@ mutual
         → ends_eager went ≡ Some x
         → StartsEager f c (e ∷ es) h₀ h₁ (Some x)
 
--- an event is made again until a reply decides it
+-- an event is made again until a reply decides it; before each time what the reply asks for is done
 pub data RetriesEvent (f : Frame) (c : ℕ) : Event → List Entry → List Entry → Result Reply Refusal
     → Type 0 where
   decided : {e : Event} {h₀ h₁ : List Entry} {r : Reply}
@@ -154,8 +155,8 @@ pub data RetriesEvent (f : Frame) (c : ℕ) : Event → List Entry → List Entr
   cut_try : {e : Event} {h₀ h₁ : List Entry} {x : Refusal} → EndsWithoutEntry f c h₀ e h₁ x
       → RetriesEvent f c e h₀ h₁ (Err x)
 
--- a child that was created is started where it runs once, in the tree of the moment in which the caller
--- looks; whether the start fails doesn't matter
+-- a child that was created is started where it runs once, by the tree when the caller looks; whether
+-- the start fails doesn't matter
 pub data StartsSingleRun (f : Frame) (c i : ℕ) : List Entry → List Entry → Option Refusal → Type 0 where
   not_once : {h₀ h₁ : List Entry}
       → IsLaterHistory c h₀ h₁

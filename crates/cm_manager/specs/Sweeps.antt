@@ -14,8 +14,8 @@ use Rattle.cm_world.specs.declared.reply.Reply.TheVariants as reply
 use Rattle.cm_world.specs.declared.answer.Refusal.{Refusal}
 use Rattle.cm_manager.specs.Turns.{AddsOneEntry, AddsWithinRoom, EndsWithoutEntry}
 
--- a target and all below it are stopped one by one, until a pick replies that all is done; an instance that a
--- pick stops has that stop ended, whatever the end says, before the next pick
+-- a target and all below it are stopped one by one, until a pick is answered that all is done; the
+-- stop of an instance is ended, whatever the end says, before the next pick
 pub data Stops (f : Frame) (c t : ℕ) : List Entry → List Entry → Option Refusal → Type 0 where
   -- all is shut
   all_shut : {h₀ h₁ : List Entry} → AddsWithinRoom f c h₀ (event.Pick t) reply.Done h₁

@@ -16,41 +16,41 @@ use Rattle.cm_world.specs.Legal.{replay, owed_by}
 abbrev pub world_after : Frame → List Entry → World
 world_after f es = replay (start f) es
 
--- the entries of one caller, in order
+-- the entries of one caller in a history, in order
 abbrev pub own_entries : ℕ → List Entry → List Entry
 own_entries c es = entries_by (λ e. e.caller) c es
 
--- a later history that has no further entry of this caller
+-- a later history with no further entry of this caller: only others have taken turns
 pub record IsLaterHistory (c : ℕ) (seen found : List Entry) : Type 0 where
   pub grows : StartsWith found seen
   pub own : own_entries c found ≡ own_entries c seen
 
--- one turn finds a later history and adds one entry to it
+-- one turn: it finds a later history, and adds one entry to it
 pub record AddsOneEntry (c : ℕ) (old : List Entry) (event : Event) (reply : Reply)
     (new : List Entry) : Type 0 where
   pub found : List Entry
   pub later : IsLaterHistory c old found
   pub entries : new ≡ found ++ record { caller = c; event = event; reply = reply } ∷ []
 
--- how many entries there must be room for, so that an event can come: one that begins an action needs room
--- for its end too
+-- how many entries there must be room for before an event is made: two where it begins an action,
+-- whose end comes later
 abbrev pub need : Event → ℕ
 need (event.Begin kind i) = 2
 need (event.Pick t) = 2
 need _ = 1
 
--- the entries that there are, those that have to come, and those that an event needs room for
+-- the entries that there are, those that still have to come, and those that an event needs room for
 abbrev pub wanted : Frame → List Entry → Event → ℕ
 wanted f found event = length found + owed_by (world_after f found) + need event
 
--- a turn that makes an entry, for which there was room
+-- a turn that adds one entry, for which there was room
 pub record AddsWithinRoom (f : Frame) (c : ℕ) (old : List Entry) (event : Event) (reply : Reply)
     (new : List Entry)
     : Type 0 where
   pub made : AddsOneEntry c old event reply new
   pub room : wanted f made.found event ≤ f.limits.entries
 
--- a turn that makes no entry and ends the call: memory was wanting, or the room was too small
+-- a turn that adds no entry and ends the call: memory ran out, or there was no room
 abbrev pub EndsWithoutEntry : Frame → ℕ → List Entry → Event → List Entry → Refusal → Type 0
 EndsWithoutEntry f c old event new refusal.Memory = IsLaterHistory c old new
 EndsWithoutEntry f c old event new refusal.HistoryFull = IsLaterHistory c old new

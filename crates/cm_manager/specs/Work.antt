@@ -1,5 +1,6 @@
 -- Promised.
--- What the ends of a caller's own actions owe to the repository and to its gates.
+-- What the ends of a caller's own actions owe to the outside: to where manifests are looked for, and
+-- to its gates.
 use Rattle.std.specs.Prelude.{◌≡◌, ℕ, ◌≤◌, List, [], ◌∷◌, ◌++◌, length, filter, Bool, true, false, IsTrue}
 use Rattle.std.specs.Prelude.{IsFalse, Option, Some, None, Result, Ok, Err}
 use Rattle.cm_io.specs.Outside.{Rose}
@@ -38,12 +39,12 @@ use Rattle.cm_gate.specs.Logs.{Grew, RoseBy}
 
 -- ---- manifests
 
--- a fault as outcomes keep it
+-- a manifest's fault as outcomes keep it, with its index kept within 32 bits
 abbrev pub note_of : ℕ → Section → ℕ → FaultNote
 note_of number section index = record { number = number; section = section; index = index_of index }
 
--- the valid declaration that the bytes of a manifest are, or their first fault: by reading, and then by
--- validity
+-- the valid declaration that the bytes of a manifest are, or their first fault: by reading, and then
+-- by validity
 pub data Judges (bytes : List ℕ) : Result Decl FaultNote → Type 0 where
   valid : {d : Decl} → decl_of_bytes bytes ≡ Ok d → IsValid d → Judges bytes (Ok d)
   unread : {number index : ℕ} {section : Section} {field : List ℕ}
@@ -61,13 +62,13 @@ resolved_by url (Err note) = finish.Other (outcome.Invalid note)
 
 -- ---- questions to the gates
 
--- where manifests are looked for: blocks by their URLs, and the name of the repository of which the gates are
--- asked for others
+-- where manifests are looked for: blocks by their URLs, and the folder in which the gates look for
+-- others
 pub record Manifests : Type 0 where
   pub repo : Option (List ℕ)
   pub blocks : Blocks
 
--- the end of a resolve by what the gates fetched for its URL; memory may be wanting to read what was found
+-- the end of a resolve by what the gates fetched for its URL; memory may run out for reading it
 pub data FetchEnds (url : List ℕ) : Fetched → Finish → Type 0 where
   found : {bytes : List ℕ} {judged : Result Decl FaultNote}
       → Judges bytes judged
@@ -87,7 +88,7 @@ launch_ends launched.Running = finish.Other outcome.Started
 launch_ends launched.Declined = finish.Other outcome.Declined
 launch_ends launched.Failed = finish.Other outcome.GateFailed
 
--- the end of a stop: by force where the gates failed
+-- the end of a stop by what the gates answered: by force where they failed
 abbrev pub halt_ends : Halted → Finish
 halt_ends halted.Stopped = finish.Other outcome.Stopped
 halt_ends halted.Failed = finish.Other outcome.Killed
@@ -125,13 +126,13 @@ pub data DoesWork (manifests : Manifests) (w : Work) : ActKind → Finish → Li
 
 -- ---- the entries of a caller
 
--- the work that an entry begins
+-- the action that an entry begins with its work, if it begins one
 abbrev pub begins : Event → Reply → Option (ActKind × Work)
 begins (event.Begin k i) (reply.Begun w) = Some (k, w)
 begins (event.Pick t) (reply.Stopping w) = Some (kind.Stop, w)
 begins _ _ = None
 
--- whether an event ends an action
+-- whether an event is the end of an action
 abbrev pub is_end : Event → Bool
 is_end (event.End a end) = true
 is_end _ = false
@@ -142,21 +143,22 @@ is_gate_failure (finish.Other outcome.GateFailed) = true
 is_gate_failure (finish.Other outcome.Killed) = true
 is_gate_failure _ = false
 
--- the count of faults before a work and behind it: it doesn't fall, and without a question it stays; an end
--- says that a gate failed only where it rose in this very work
+-- the count of faults before and after a work: it doesn't fall, and without a question it stays; an
+-- end says that a gate failed only where it rose in this very work
 pub record Counts (end : Finish) (asked : List GateCall) (before behind : ℕ) : Type 0 where
   pub later : before ≤ behind
   pub still : asked ≡ [] → behind ≡ before
   pub rose : IsTrue (is_gate_failure end) → Rose before behind
 
--- an entry is the end of that work, for which this was asked, with the count of faults before and behind it
+-- an entry is the end of that work, for which this was asked, with the count of faults before and
+-- after it
 abbrev pub IsEndOf : Manifests → ActKind × Work → Entry → List GateCall → ℕ → ℕ → Type 0
 IsEndOf manifests b e asked before behind =
     (end : Finish) × (e.event ≡ event.End b.1.action end) × DoesWork manifests b.1 b.0 end asked
     × Counts end asked before behind
 
--- the part of a caller, in which each work is ended by the next entry and no other entry is an end, and all
--- that its gates were asked for it, in order, with their count of faults from work to work
+-- a caller's entries, in which each work is ended by the next entry and no other entry is an end; with
+-- all that its gates were asked for it, in order, and their count of faults
 pub data Works (manifests : Manifests) : List Entry → List GateCall → ℕ → ℕ → Type 0 where
   nothing : {faults : ℕ} → Works manifests [] [] faults faults
   passes : {e : Entry} {es : List Entry} {asked : List GateCall} {before behind : ℕ}
@@ -175,11 +177,11 @@ pub data Works (manifests : Manifests) : List Entry → List GateCall → ℕ �
 abbrev pub tells_failure : Entry → Bool
 tells_failure e = elim e.event as (λ _. Bool) [ event.End a end ↦ is_gate_failure end | _ ↦ false ]
 
--- how many ends of a part say that a gate failed
+-- how many of these entries are ends that say that a gate failed
 abbrev pub failures : List Entry → ℕ
 failures part = length (filter tells_failure part)
 
--- a caller's part with its gates: their log before and after, and their count of faults
+-- the gates did the work of a caller's entries: their log before and after, and their count of faults
 pub record WorksWith (manifests : Manifests) (part : List Entry) (log₀ log₁ : Option (List GateCall))
     (faults₀ faults₁ : ℕ) : Type 0 where
   pub asked : List GateCall

@@ -28,6 +28,8 @@ pub struct Manager {
 }
 
 impl Drop for Manager {
+    /// Frees the turn lock with the realm inside, the manifests that were given with it, and the name
+    /// of the repository.
     fn drop(self) {
         let Manager {
             turn: _,

@@ -177,7 +177,8 @@ fn launch<R: Threads + Wait + Sync, G: Gates>(
     }
 }
 
-/// The work of a stop.
+/// Does the work of a stop: has the gates halt the instance's program, and answers how that ended. An
+/// instance without a program has stopped at once.
 fn halt<R: Threads + Wait + Sync, G: Gates>(
     rt: &R,
     gates: &mut G,
@@ -253,7 +254,7 @@ impl Manager {
         Ok(Fetch { repo, url })
     }
 
-    /// The same, by what the gates fetch for it.
+    /// Resolves a URL that isn't kept, by what the gates fetch for it.
     fn fetch_manifest<R: Threads + Wait + Sync, G: Gates>(
         &self,
         rt: &R,

@@ -1,5 +1,5 @@
 -- Inside.
--- How monikers are written.
+-- What functions that read and write monikers promise.
 use Rattle.std.specs.Prelude.{◌≡◌, ℕ, ◌<◌, ◌≤◌, List, [], ◌∷◌, ◌++◌, length, ◌==◌}
 use Rattle.std.specs.Prelude.{if◌then◌else◌, All}
 use Rattle.cm_names.specs.declared.child.ChildName.{ChildName}
@@ -21,7 +21,7 @@ IsMonikerFault t (BadMoniker n) =
     (length t ≤ 4096) × (IsMonikerText t → ⊥) × IsLongestPrefix IsMonikerText t n
 IsMonikerFault t Memory = ⊥
 
--- the text without a slash in front
+-- the text without a leading slash
 abbrev pub behind_slash : List ℕ → List ℕ
 behind_slash [] = []
 behind_slash (b ∷ bs) = if b == 47 then bs else b ∷ bs
@@ -34,10 +34,10 @@ IsChildText t = (c : ChildName) × IsChildName c × (child_text c ≡ t)
 abbrev pub MonikersReadOneWay : Type 0
 MonikersReadOneWay = (t : List ℕ) (m n : Moniker) → IsMonikerTextOf t m → IsMonikerTextOf t n → m ≡ n
 
--- the text of a moniker whose names are names is one of its texts
+-- what is written of a moniker is read as it
 abbrev pub WritesItsText : Type 0
 WritesItsText = (m : Moniker) → All IsChildName m.parts → IsMonikerTextOf (moniker_text m) m
 
--- the one list begins with the other
+-- the first list of names begins with the second
 abbrev pub MonikerStartsWith : List ChildName → List ChildName → Type 0
 MonikerStartsWith parts prefix = (rest : List ChildName) × (parts ≡ prefix ++ rest)

@@ -1,5 +1,6 @@
 -- Inside.
--- Where a moniker's text can stand, and how it can go on from there.
+-- The state machine that reads monikers: where the reader stands after some bytes, and how it can go
+-- on.
 use Rattle.std.specs.Prelude.{ℕ, ◌+◌, Bool, true, false, ◌==◌, ◌&&◌, nat_lt, Option, Some, None}
 use Rattle.std.specs.Prelude.{if◌then◌else◌}
 use Rattle.cm_names.specs.declared.grammar.MonikerState.{MonikerState}
@@ -7,16 +8,16 @@ use Rattle.cm_names.specs.declared.grammar.MonikerState.TheVariants.{Start, Whol
 use Rattle.cm_names.specs.declared.grammar.MonikerState.TheVariants.{Second}
 use Rattle.cm_names.specs.Name.{begins_name, continues_name}
 
--- behind one byte more, where n bytes of a name stand
+-- the state after one more byte, where n bytes of a name were read; `place` makes the state of a name
 abbrev pub in_name : (ℕ → MonikerState) → ℕ → ℕ → Option MonikerState
 in_name place n b =
     if b == 47 then Some Part else if continues_name b && nat_lt n 255 then Some (place (n + 1)) else None
 
--- behind the first byte of a name
+-- the state after the first byte of a name
 abbrev pub begin_name : (ℕ → MonikerState) → ℕ → Option MonikerState
 begin_name place b = if begins_name b then Some (place 1) else None
 
--- the place behind one byte more, where some moniker goes on so
+-- the state after one more byte, where some moniker can go on so
 abbrev pub next : MonikerState → ℕ → Option MonikerState
 next Start b = if b == 46 then Some Whole else if b == 47 then Some Root else begin_name First b
 next Whole b = None
@@ -26,7 +27,7 @@ next (First n) b = if b == 58 then Some Colon else in_name First n b
 next Colon b = begin_name Second b
 next (Second n) b = in_name Second n b
 
--- whether a moniker may end here
+-- whether a moniker may end in this state
 abbrev pub may_end : MonikerState → Bool
 may_end Start = false
 may_end Whole = true

@@ -5,16 +5,16 @@ use Rattle.std.specs.Prelude.{Option, Some, None, option_map, position, All, if�
 use Rattle.cm_names.specs.declared.name.NameFault.{NameFault}
 use Rattle.cm_names.specs.declared.name.NameFault.TheVariants.{Empty, TooLong, BadByte}
 
--- a letter, a digit or a underscore
+-- whether a name may begin with this byte: a letter, a digit or an underscore
 abbrev pub begins_name : ℕ → Bool
 begins_name b =
     (nat_le 48 b && nat_le b 57) || (nat_le 65 b && nat_le b 90) || (nat_le 97 b && nat_le b 122) || (b == 95)
 
--- one of these, a hyphen or a dot
+-- whether this byte may follow in a name: one of these, a hyphen or a dot
 abbrev pub continues_name : ℕ → Bool
 continues_name b = begins_name b || (b == 45) || (b == 46)
 
--- 1 to 255 bytes that may stand in a name, the first one that may begin it
+-- a name: 1 to 255 bytes that names may have
 abbrev pub IsName : List ℕ → Type 0
 IsName [] = ⊥
 IsName (b ∷ bs) = (length (b ∷ bs) ≤ 255) × IsTrue (begins_name b) × All (λ c. IsTrue (continues_name c)) bs

@@ -1,12 +1,13 @@
 -- Promised.
--- How far a text can still become a text of some kind.
+-- How far a text can still become a text of some kind. Faults tell it as the place where a text goes
+-- wrong.
 use Rattle.std.specs.Prelude.{ℕ, ◌+◌, ◌<◌, ◌≤◌, List, ◌++◌, length, take}
 
--- some text of the kind begins with it
+-- some text of the kind begins with this text
 abbrev pub HasCompletion : (List ℕ → Type 0) → List ℕ → Type 0
 HasCompletion P t = (rest : List ℕ) × P (t ++ rest)
 
--- n bytes are the longest prefix of the text that some text of the kind begins with
+-- the first n bytes of the text are its longest prefix with which some text of the kind begins
 pub record IsLongestPrefix (P : List ℕ → Type 0) (t : List ℕ) (n : ℕ) : Type 0 where
   pub within : n ≤ length t
   pub begins : HasCompletion P (take n t)

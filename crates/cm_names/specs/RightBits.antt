@@ -6,11 +6,11 @@ use Rattle.std.proofs.Common.{refl, eqb-true}
 use Rattle.std.proofs.lemmas.Bool.{agree_below_at}
 use Rattle.cm_names.specs.Rights.{RightSet}
 
--- whether the bit at a place is 1
+-- whether the i-th bit of a number is 1
 abbrev pub has_bit : ℕ → ℕ → Bool
 has_bit n i = bit_at n i == 1
 
--- the rights in their order, from the lowest bit on
+-- the rights that the bits of a number say, in their order from the lowest bit on
 abbrev pub set_of_bits : ℕ → RightSet
 set_of_bits n = record {
   connect = has_bit n 0;
@@ -24,11 +24,11 @@ set_of_bits n = record {
   write_bytes = has_bit n 8;
 }
 
--- 1 for true
+-- a bit for a truth value: 1 for true
 abbrev pub bit_of : Bool → ℕ
 bit_of b = if b then 1 else 0
 
--- the number of which the bits are those of the set
+-- the number whose bits say these rights
 abbrev pub bits_of_set : RightSet → ℕ
 bits_of_set r =
     bit_of r.connect + 2 * (bit_of r.enumerate + 2 * (bit_of r.execute + 2 * (bit_of r.get_attributes

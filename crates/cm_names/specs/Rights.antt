@@ -12,7 +12,7 @@ use Rattle.cm_names.specs.declared.rights.Right.TheVariants.{UpdateAttributes, W
 use Rattle.cm_names.specs.declared.rights.RightsFault.{RightsFault}
 use Rattle.cm_names.specs.declared.rights.RightsFault.TheVariants.{Empty, UnknownRight, RepeatedRight}
 
--- a set of the nine rights: which of them are in it
+-- a set of the nine rights to a directory: which of them are in it
 pub record RightSet : Type 0 where
   pub connect : Bool
   pub enumerate : Bool
@@ -38,7 +38,7 @@ no_rights = record {
   write_bytes = false;
 }
 
--- what is in either
+-- the rights that are in either set
 abbrev pub union : RightSet → RightSet → RightSet
 union a b = record {
   connect = a.connect || b.connect;
@@ -52,7 +52,7 @@ union a b = record {
   write_bytes = a.write_bytes || b.write_bytes;
 }
 
--- where the first holds, the second does
+-- whether the second holds where the first does
 abbrev pub implies : Bool → Bool → Bool
 implies a b = not a || b
 
@@ -64,7 +64,7 @@ all_rights =
     Connect ∷ Enumerate ∷ Execute ∷ GetAttributes ∷ ModifyDirectory ∷ ReadBytes ∷ Traverse ∷ UpdateAttributes
     ∷ WriteBytes ∷ []
 
--- a right's name
+-- the word for a right
 abbrev pub word_of : Right → List ℕ
 word_of Connect = codes "connect"
 word_of Enumerate = codes "enumerate"
@@ -88,7 +88,7 @@ has r Traverse = r.traverse
 has r UpdateAttributes = r.update_attributes
 has r WriteBytes = r.write_bytes
 
--- the set of that right at most
+-- the set of this right, where the flag is true; else the empty set
 abbrev pub only_if : Bool → Right → RightSet
 only_if b Connect = record no_rights { connect = b }
 only_if b Enumerate = record no_rights { enumerate = b }
@@ -100,33 +100,33 @@ only_if b Traverse = record no_rights { traverse = b }
 only_if b UpdateAttributes = record no_rights { update_attributes = b }
 only_if b WriteBytes = record no_rights { write_bytes = b }
 
--- the set of one right
+-- the set of this right alone
 abbrev pub only : Right → RightSet
 only right = only_if true right
 
--- each right of the second set is in the first
+-- whether each right of the second set is in the first
 abbrev pub contains : RightSet → RightSet → Bool
 contains a b = list_all (λ right. implies (has b right) (has a right)) all_rights
 
 -- ---- the table of words
 
--- what `r*`, `w*` and `x*` have in common
+-- the rights that `r*`, `w*` and `x*` have in common
 abbrev pub walking : RightSet
 walking = record no_rights { connect = true; enumerate = true; traverse = true }
 
--- `r*`
+-- the rights that `r*` stands for
 abbrev pub reading : RightSet
 reading = record walking { read_bytes = true; get_attributes = true }
 
--- `w*`
+-- the rights that `w*` stands for
 abbrev pub writing : RightSet
 writing = record walking { write_bytes = true; modify_directory = true; update_attributes = true }
 
--- `x*`
+-- the rights that `x*` stands for
 abbrev pub executing : RightSet
 executing = record walking { execute = true }
 
--- the right of that name
+-- the right of this name, if there is one
 abbrev pub right_named : List ℕ → Option Right
 right_named t =
     if bytes_eq t (codes "connect") then Some Connect
@@ -140,7 +140,7 @@ right_named t =
     else if bytes_eq t (codes "write_bytes") then Some WriteBytes
     else None
 
--- what a word stands for
+-- the rights that a word stands for, if it does: one right, or one of the short words
 unfoldable pub rights_of_word : List ℕ → Option RightSet
 rights_of_word t =
     if bytes_eq t (codes "r*") then Some reading
@@ -152,16 +152,17 @@ rights_of_word t =
 
 -- ---- lists of words
 
--- an index as the faults have it, which is 2 ^ 32 - 1 for all that are larger
+-- an index as faults tell it, kept within 32 bits
 abbrev pub index_of : ℕ → ℕ
 index_of n = min n 4294967295
 
--- the rights beside those of the other words, where these have no fault
+-- these rights and those of other words, where the others have no fault
 abbrev pub with_rights : RightSet → Result RightSet RightsFault → Result RightSet RightsFault
 with_rights r (Ok others) = Ok (union r others)
 with_rights r (Err e) = Err e
 
--- one word more, behind the earlier ones
+-- the rights of one more word and the others that follow it, or the word's fault: unknown, or repeated
+-- after earlier ones
 abbrev pub with_word : List (List ℕ) → List ℕ → Option RightSet → Result RightSet RightsFault
     → Result RightSet RightsFault
 with_word earlier word None others = Err (UnknownRight (index_of (length earlier)))
@@ -169,21 +170,21 @@ with_word earlier word (Some r) others =
     if list_any (bytes_eq word) earlier then Err (RepeatedRight (index_of (length earlier)))
     else with_rights r others
 
--- the union of the words, which stand behind the earlier ones, or their first fault
+-- the rights of words that come after the earlier ones, or their first fault
 abbrev pub rights_behind : List (List ℕ) → List (List ℕ) → Result RightSet RightsFault
 rights_behind earlier [] = Ok no_rights
 rights_behind earlier (word ∷ rest) =
     with_word earlier word (rights_of_word word) (rights_behind (earlier ++ word ∷ []) rest)
 
--- the union of the words, or the first fault
+-- the rights that a list of words stands for, or its first fault
 unfoldable pub rights_of : List (List ℕ) → Result RightSet RightsFault
 rights_of [] = Err Empty
 rights_of (word ∷ rest) = rights_behind [] (word ∷ rest)
 
--- the names of the rights that are in the set, in their order
+-- the words for the rights in a set, in their order
 abbrev pub words_of : RightSet → List (List ℕ)
 words_of r = map word_of (filter (has r) all_rights)
 
--- those, joined by commas
+-- the words for the rights in a set, joined by commas
 abbrev pub text_of : RightSet → List ℕ
 text_of r = join_with_byte 44 (words_of r)

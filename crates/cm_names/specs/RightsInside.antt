@@ -1,5 +1,5 @@
 -- Inside.
--- Rights, and the words that stand for them.
+-- What single words say of single rights, and that words are read back.
 use Rattle.std.specs.Prelude.{◌≡◌, ◌≢◌, ℕ, List, Bool}
 use Rattle.std.specs.Prelude.{false, Option, Some, None, Result, Ok}
 use Rattle.std.specs.Prelude.{Err}
@@ -8,15 +8,15 @@ use Rattle.cm_names.specs.declared.rights.Right.{Right}
 use Rattle.cm_names.specs.declared.rights.RightsFault.{RightsFault}
 use Rattle.cm_names.specs.Rights.{RightSet, no_rights, has, rights_of_word, rights_of, words_of}
 
--- whether the word stands for a set that has the right
+-- whether a word stands for rights among which this one is
 abbrev pub word_has : Right → List ℕ → Bool
 word_has right word = option_map_or (λ r. has r right) (rights_of_word word) false
 
--- the set, where the words have no fault
+-- the rights that words were read as, where they have no fault
 abbrev pub rights_if_faultless : Result RightSet RightsFault → Option RightSet
 rights_if_faultless (Ok r) = Some r
 rights_if_faultless (Err e) = None
 
--- the names of a set's rights are read as that set
+-- the words that are written for some rights are read as these
 abbrev pub WordsAreReadBack : Type 0
 WordsAreReadBack = (r : RightSet) → r ≢ no_rights → rights_of (words_of r) ≡ Ok r

@@ -1,5 +1,5 @@
 -- Promised.
--- What a contract sees of a short text.
+-- A text that is short enough to be kept in place, as contracts see it.
 use Rattle.std.specs.Prelude.{ℕ, List}
 
 -- its bytes, and those of the unused room, of which no clause says anything

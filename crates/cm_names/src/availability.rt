@@ -70,6 +70,7 @@ impl fmt::Display for Availability {
 
     ghost output = { λ availability. Some (availability_word availability) };
 
+    /// Writes the manifest's word.
     fn fmt<W: fmt::Write>(&self, f: &mut fmt::Formatter<W>) -> fmt::Result {
         match self {
             Availability::Required => f.write_str("required"),

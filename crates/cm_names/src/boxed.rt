@@ -21,6 +21,7 @@ impl<T> Model for Boxed<T> {
 }
 
 impl<T: Drop> Drop for Boxed<T> {
+    /// Called where the value goes: gives back the memory of its parts.
     fn drop(self) {
         let Boxed { value: _ } = self;
     }
@@ -36,7 +37,7 @@ impl<T: Drop> Boxed<T> {
         Ok(Boxed { value })
     }
 
-    /// The value.
+    /// The value, borrowed.
     pub fn get(&self) -> &T
         ensures { result.now ≡ self.now }
     {
@@ -57,6 +58,7 @@ impl<T: Plain> Clone for Boxed<T> {
 
     ghost is_clone = { λ a b. b ≡ a };
 
+    /// A copy, which contracts see as the same value. `Err` comes where memory runs out.
     fn clone(&self) -> Result<Boxed<T>, AllocError> {
         let value = self.value.clone()?;
         Ok(Boxed { value })

@@ -27,6 +27,7 @@ impl fmt::Display for ChildName {
 
     ghost output = { λ child. Some (child_text child) };
 
+    /// Writes `name`, or `collection:name`.
     fn fmt<W: fmt::Write>(&self, f: &mut fmt::Formatter<W>) -> fmt::Result {
         let name = self.name.as_str();
         match &self.coll {

@@ -26,6 +26,7 @@ impl fmt::Display for Dependency {
 
     ghost output = { λ dependency. Some (dependency_word dependency) };
 
+    /// Writes the manifest's word.
     fn fmt<W: fmt::Write>(&self, f: &mut fmt::Formatter<W>) -> fmt::Result {
         match self {
             Dependency::Strong => f.write_str("strong"),

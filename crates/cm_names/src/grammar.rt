@@ -11,7 +11,7 @@ use crate::name::{begins, continues};
 /// The number of bytes that a name may have, as places count them.
 const MAX_COUNT: u32 = MAX_NAME_BYTES as u32;
 
-/// Where the text of a moniker stands behind some of its bytes.
+/// Where the text of a moniker stands after some of its bytes.
 #[derive(Debug, Clone, Copy, PartialEq, Eq)]
 pub enum MonikerState {
     /// Nothing yet.
@@ -31,7 +31,7 @@ pub enum MonikerState {
 }
 
 impl MonikerState {
-    /// The place behind one byte more, where the text of some moniker goes on with it. It leaves
+    /// The place after one byte more, where the text of some moniker goes on with it. It leaves
     /// the moniker's length aside.
     pub fn next(self, byte: u8) -> Option<MonikerState>
         ensures { result ≡ next self byte }
@@ -88,6 +88,7 @@ impl MonikerState {
     }
 }
 
+/// The state after the first byte of a part's first name, if a name may begin with it.
 fn first_at(byte: u8) -> Option<MonikerState>
     ensures { result ≡ begin_name MonikerState.First byte }
 {

@@ -17,6 +17,7 @@ pub struct List<T> {
 }
 
 impl<T: Drop> Drop for List<T> {
+    /// Called where the value goes: gives back the memory of its parts.
     fn drop(self) {
         let List { items: _ } = self;
     }
@@ -52,14 +53,14 @@ impl<T> List<T> {
         Ok(List { items })
     }
 
-    /// The items of a vector.
+    /// A list of a vector's items, without a copy.
     pub fn from_vec(items: Vec<T>) -> List<T>
         ensures { result ≡ items.items }
     {
         List { items }
     }
 
-    /// The vector of the items.
+    /// A vector of the items, without a copy.
     pub fn into_vec(self) -> Vec<T>
         ensures { result.items ≡ self }
     {
@@ -81,7 +82,7 @@ impl<T> List<T> {
         self.items.is_empty()
     }
 
-    /// The items.
+    /// All items, borrowed, to iterate over.
     pub fn as_slice(&self) -> &[T]
         ensures { result.now ≡ self.now }
     {
@@ -97,7 +98,7 @@ impl<T> List<T> {
 }
 
 impl List<u8> {
-    /// Puts a copy of the bytes behind these. `Err(Memory)` comes where memory runs out; then the
+    /// Puts a copy of the bytes after these. `Err(Memory)` comes where memory runs out; then the
     /// list is as before.
     pub fn extend_from_slice(&mut self, bytes: &[u8]) -> Result<(), Memory>
         ensures ok { OnOk result (self.new ≡ self.old ++ bytes.now) }
@@ -135,6 +136,7 @@ impl<T: Plain> Clone for List<T> {
 
     ghost is_clone = { λ a b. b ≡ a };
 
+    /// A copy, which contracts see as the same value. `Err` comes where memory runs out.
     fn clone(&self) -> Result<List<T>, AllocError> {
         let items = self.items.clone()?;
         Ok(List { items })
@@ -152,6 +154,7 @@ impl<T: PartialEq> PartialEq for List<T> {
 
     ghost laws = { lists_per T.laws };
 
+    /// Equal where the items are, one by one.
     fn eq(&self, other: &List<T>) -> bool {
         self.items == other.items
     }
@@ -170,6 +173,8 @@ impl<T: PartialOrd> PartialOrd for List<T> {
 
     ghost laws = { lists_po T.PartialOrd.laws };
 
+    /// Lists are ordered by their first items that differ; the shorter one comes first where there are
+    /// none.
     fn partial_cmp(&self, other: &List<T>) -> Option<Ordering> {
         self.items.partial_cmp(&other.items)
     }
@@ -186,6 +191,8 @@ impl<T: Ord> Ord for List<T> {
 
     ghost matches_eq = { lists_ties T.cmp T.matches_eq };
 
+    /// Lists are ordered by their first items that differ; the shorter one comes first where there are
+    /// none.
     fn cmp(&self, other: &List<T>) -> Ordering {
         self.items.cmp(&other.items)
     }

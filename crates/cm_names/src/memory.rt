@@ -8,12 +8,14 @@ use std::fmt;
 pub struct Memory;
 
 impl From<AllocError> for Memory {
+    /// For `?` where an allocation fails: memory ran out.
     fn from(_: AllocError) -> Memory {
         Memory
     }
 }
 
 impl<T: Drop> From<AllocFailed<T>> for Memory {
+    /// For `?` where an allocation fails: memory ran out.
     fn from(_: AllocFailed<T>) -> Memory {
         Memory
     }
@@ -24,6 +26,7 @@ impl fmt::Display for Memory {
 
     ghost output = { λ _. Some (codes "out of memory") };
 
+    /// Writes `out of memory`.
     fn fmt<W: fmt::Write>(&self, f: &mut fmt::Formatter<W>) -> fmt::Result {
         f.write_str("out of memory")
     }

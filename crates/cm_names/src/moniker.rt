@@ -54,6 +54,7 @@ impl From<Memory> for MonikerFault {
 
     ghost from_gives = { λ _ e. e ≡ OutOfMemory };
 
+    /// For `?` after a call that lacked memory.
     fn from(_: Memory) -> MonikerFault {
         MonikerFault::Memory
     }

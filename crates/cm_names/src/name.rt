@@ -34,6 +34,7 @@ impl From<Memory> for NameFault {
 
     ghost from_gives = { λ _ e. e ≡ OutOfMemory };
 
+    /// For `?` after a call that lacked memory.
     fn from(_: Memory) -> NameFault {
         NameFault::Memory
     }
@@ -51,6 +52,7 @@ pub struct Name {
 }
 
 impl Drop for Name {
+    /// Called where the value goes: gives back the memory of its parts.
     fn drop(self) {
         let Name { text: _ } = self;
     }
@@ -76,14 +78,14 @@ pub fn begins(byte: u8) -> bool
     matches!(byte, b'0'..=b'9' | b'A'..=b'Z' | b'a'..=b'z' | b'_')
 }
 
-/// Whether the byte may stand in a name behind the first one.
+/// Whether the byte may stand in a name after the first one.
 pub fn continues(byte: u8) -> bool
     ensures { result ≡ continues_name byte }
 {
     begins(byte) || byte == b'-' || byte == b'.'
 }
 
-/// The first place behind a name's first byte of a byte that may not stand there.
+/// The first place after a name's first byte of a byte that may not stand there.
 fn bad_rest(rest: &[u8]) -> Option<usize>
     ensures place { result ≡ position (λ c. not (continues_name c)) rest.now }
     ensures none { IfNone result (All (λ c. IsTrue (continues_name c)) rest.now) }
@@ -153,6 +155,7 @@ impl Clone for Name {
 
     ghost is_clone = { λ a b. b ≡ a };
 
+    /// A copy, which contracts see as the same value. `Err` comes where memory runs out.
     fn clone(&self) -> Result<Name, AllocError> {
         let text = self.text.clone()?;
         Ok(Name { text })
@@ -168,6 +171,7 @@ impl fmt::Display for Name {
 
     ghost output = { λ name. Some name };
 
+    /// Writes the name's text.
     fn fmt<W: fmt::Write>(&self, f: &mut fmt::Formatter<W>) -> fmt::Result {
         f.write_str(self.as_str())
     }
@@ -176,6 +180,7 @@ impl fmt::Display for Name {
 impl AsStr for Name {
     ghost text = { λ name. name };
 
+    /// The name's text, for code that takes any such value.
     fn as_str(&self) -> &str {
         Name::as_str(self)
     }

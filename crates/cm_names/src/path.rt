@@ -55,23 +55,27 @@ impl From<Memory> for PathFault {
 
     ghost from_gives = { λ _ e. e ≡ OutOfMemory };
 
+    /// For `?` after a call that lacked memory.
     fn from(_: Memory) -> PathFault {
         PathFault::Memory
     }
 }
 
+/// Whether a part of a path may have the byte: printing ASCII, but no space and no slash.
 fn is_part_byte(byte: u8) -> bool
     ensures { result ≡ spec.is_part_byte byte }
 {
     byte >= 33 && byte <= 126 && byte != b'/'
 }
 
+/// Whether the bytes are the same.
 fn is_same(a: &[u8], b: &[u8]) -> bool
     ensures { result ≡ bytes_eq a.now b.now }
 {
     a == b
 }
 
+/// Whether the part is `.` or `..`.
 fn is_dots(part: &[u8]) -> bool
     ensures { result ≡ spec.is_dots part.now }
 {
@@ -103,6 +107,7 @@ fn part_fault(place: usize, part: &[u8]) -> Option<PathFault>
     }
 }
 
+/// The place of the first slash.
 fn slash_in(rest: &[u8]) -> Option<usize>
     ensures place { result ≡ position spec.is_slash rest.now }
     ensures none { IfNone result (All (λ c. spec.is_slash c ≡ false) rest.now) }
@@ -128,6 +133,7 @@ fn parts_fault(start: usize, text: &[u8]) -> Option<PathFault>
     part_fault(place, rest)
 }
 
+/// The first fault of a text that is to be a path, in the order of [`CapPath::read`].
 fn path_fault(text: &[u8]) -> Option<PathFault>
     ensures { result ≡ spec.path_fault text.now }
 {
@@ -145,6 +151,7 @@ fn path_fault(text: &[u8]) -> Option<PathFault>
     }
 }
 
+/// The first fault of a text that is to be a subdirectory, in the order of [`SubDir::read`].
 fn subdir_fault(text: &[u8]) -> Option<PathFault>
     ensures { result ≡ spec.subdir_fault text.now }
 {
@@ -174,6 +181,7 @@ pub struct CapPath {
 }
 
 impl Drop for CapPath {
+    /// Called where the value goes: gives back the memory of its parts.
     fn drop(self) {
         let CapPath { text: _ } = self;
     }
@@ -256,7 +264,7 @@ impl CapPath {
     }
 }
 
-/// Puts each subdirectory behind a slash at the text's end.
+/// Puts each subdirectory after a slash at the text's end.
 fn push_slashed(text: &mut Text, subdirs: &[SubDir]) -> Result<(), Memory>
     ensures { OnOk result (text.new ≡ text.old ++ flat_map spec.slash_and_text subdirs.now) }
 {
@@ -272,6 +280,7 @@ impl Clone for CapPath {
 
     ghost is_clone = { λ a b. b ≡ a };
 
+    /// A copy, which contracts see as the same value. `Err` comes where memory runs out.
     fn clone(&self) -> Result<CapPath, AllocError> {
         let text = self.text.clone()?;
         Ok(CapPath { text })
@@ -287,6 +296,7 @@ impl fmt::Display for CapPath {
 
     ghost output = { λ path. Some path };
 
+    /// Writes the path's text.
     fn fmt<W: fmt::Write>(&self, f: &mut fmt::Formatter<W>) -> fmt::Result {
         f.write_str(self.as_str())
     }
@@ -295,6 +305,7 @@ impl fmt::Display for CapPath {
 impl AsStr for CapPath {
     ghost text = { λ path. path };
 
+    /// The path's text, for code that takes any such value.
     fn as_str(&self) -> &str {
         CapPath::as_str(self)
     }
@@ -311,6 +322,7 @@ pub struct SubDir {
 }
 
 impl Drop for SubDir {
+    /// Called where the value goes: gives back the memory of its parts.
     fn drop(self) {
         let SubDir { text: _ } = self;
     }
@@ -366,6 +378,7 @@ impl Clone for SubDir {
 
     ghost is_clone = { λ a b. b ≡ a };
 
+    /// A copy, which contracts see as the same value. `Err` comes where memory runs out.
     fn clone(&self) -> Result<SubDir, AllocError> {
         let text = self.text.clone()?;
         Ok(SubDir { text })
@@ -381,6 +394,7 @@ impl fmt::Display for SubDir {
 
     ghost output = { λ subdir. Some subdir };
 
+    /// Writes the subdirectory's text.
     fn fmt<W: fmt::Write>(&self, f: &mut fmt::Formatter<W>) -> fmt::Result {
         f.write_str(self.as_str())
     }
@@ -389,6 +403,7 @@ impl fmt::Display for SubDir {
 impl AsStr for SubDir {
     ghost text = { λ subdir. subdir };
 
+    /// The subdirectory's text, for code that takes any such value.
     fn as_str(&self) -> &str {
         SubDir::as_str(self)
     }

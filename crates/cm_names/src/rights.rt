@@ -83,7 +83,7 @@ impl Right {
         }
     }
 
-    /// The right of that name.
+    /// The right of this name, as `read_bytes`, if there is one.
     fn named(word: &str) -> Option<Right>
         ensures { result ≡ spec.right_named word.now }
     {
@@ -140,6 +140,7 @@ impl PartialEq for Rights {
 
     ghost laws = { on_per bits_of_set (partial_equiv_from_equiv nat_eq_equiv) };
 
+    /// Equal where the sets have the same rights.
     fn eq(&self, other: &Self) -> bool {
         self.bits == other.bits
     }
@@ -183,14 +184,14 @@ fn is_among(words: &[Text], word: &Text) -> bool
 }
 
 impl Rights {
-    /// No right.
+    /// The empty set.
     pub fn none() -> Rights
         ensures { result ≡ spec.no_rights }
     {
         Rights { bits: 0 }
     }
 
-    /// That right alone.
+    /// The set of this right alone.
     pub fn only(right: Right) -> Rights
         ensures { result ≡ spec.only right }
     {
@@ -352,7 +353,7 @@ impl Rights {
     }
 }
 
-/// The words, joined by `,`.
+/// The words, joined by `,`, for [`Rights::text`].
 fn joined(alloc: Global, words: &[Text]) -> Result<Text, Memory>
     ensures { IfOk result (λ text. text ≡ join_with_byte 44 words.now) }
 {

@@ -25,6 +25,7 @@ impl<T> Model for Shared<T> {
 }
 
 impl<T: Drop> Drop for Shared<T> {
+    /// Called where the value goes: gives back the memory of its parts.
     fn drop(self) {
         let Shared { value: _ } = self;
     }
@@ -39,7 +40,7 @@ impl<T: Drop> Shared<T> {
         Ok(Shared { value })
     }
 
-    /// The value.
+    /// The value, borrowed; nobody changes it.
     pub fn get(&self) -> &T
         ensures { result.now ≡ self.now }
     {
@@ -54,6 +55,7 @@ impl<T: Drop> Clone for Shared<T> {
 
     ghost is_clone = { λ a b. b ≡ a };
 
+    /// A copy that shares the contents; it takes no memory.
     fn clone(&self) -> Result<Shared<T>, AllocError> {
         let value = Arc::try_clone(&self.value)?;
         Ok(Shared { value })
@@ -70,6 +72,7 @@ impl<T: PartialEq> PartialEq for Shared<T> {
 
     ghost laws = { T.laws };
 
+    /// Compares the values, not where they stand.
     fn eq(&self, other: &Shared<T>) -> bool {
         self.value == other.value
     }
@@ -83,6 +86,7 @@ impl<T: Eq> Eq for Shared<T> {
 impl<T: fmt::Debug> fmt::Debug for Shared<T> {
     ghost debug_output = { T.debug_output };
 
+    /// Writes the value.
     fn fmt<W: fmt::Write>(&self, f: &mut fmt::Formatter<W>) -> fmt::Result {
         self.value.fmt(f)
     }

@@ -11,7 +11,7 @@ pub(crate) const MAX_SHORT_BYTES: usize = 14;
 /// A text of at most 14 bytes, which takes 15 bytes and no memory beside itself.
 #[derive(Clone, Copy)]
 pub(crate) struct Short {
-    /// Its bytes, and behind them those of the unused room.
+    /// Its bytes, and after them those of the unused room.
     room: [u8; MAX_SHORT_BYTES],
     /// The number of its bytes.
     count: u8,
@@ -37,7 +37,7 @@ impl Model for Short {
 }
 
 impl Short {
-    /// The bytes of both, one behind the other.
+    /// The bytes of both, one after the other.
     pub(crate) fn join(prefix: &str, back: &str) -> Short
         requires { length prefix.now + length back.now ≤ 14 }
         ensures { result.bytes ≡ prefix.now ++ back.now }
@@ -53,7 +53,7 @@ impl Short {
         }
     }
 
-    /// The text.
+    /// The text, borrowed.
     pub(crate) fn as_str(&self) -> &str
         ensures { result.now ≡ self.now.bytes }
     {

@@ -49,6 +49,7 @@ impl Model for Text {
 }
 
 impl Drop for Text {
+    /// Called where the value goes: gives back the memory of its parts.
     fn drop(self) {
         let Text {
             alloc: _,
@@ -58,7 +59,7 @@ impl Drop for Text {
 }
 
 impl Stored {
-    /// The text.
+    /// The text, wherever its bytes stand.
     fn as_str(&self) -> &str
         ensures { result.now ≡ stored_bytes self.now }
     {
@@ -69,7 +70,7 @@ impl Stored {
         }
     }
 
-    /// A place for the bytes of `prefix` and those of `back` behind them, which takes memory where
+    /// A place for the bytes of `prefix` and those of `back` after them, which takes memory where
     /// they are more than 14. `Err(Memory)` comes where memory runs out.
     fn join(alloc: Global, prefix: &str, back: &str) -> Result<Stored, Memory>
         ensures { IfOk result (λ made. stored_bytes made ≡ prefix.now ++ back.now) }
@@ -144,7 +145,7 @@ impl Text {
         }
     }
 
-    /// The text.
+    /// The text, borrowed as the language's own type.
     pub fn as_str(&self) -> &str
         ensures { result.now ≡ self.now }
     {
@@ -212,6 +213,7 @@ impl Clone for Text {
 
     ghost is_clone = { λ a b. b ≡ a };
 
+    /// A copy that shares the contents; it takes no memory.
     fn clone(&self) -> Result<Text, AllocError> {
         let stored = match &self.stored {
             Stored::Inline(short) => Stored::Inline(*short),
@@ -238,6 +240,7 @@ impl PartialEq for Text {
 
     ghost laws = { partial_equiv_from_equiv nat_list_eq_equiv };
 
+    /// Equal where the bytes are, wherever they stand.
     fn eq(&self, other: &Text) -> bool {
         self.as_str() == other.as_str()
     }
@@ -258,6 +261,7 @@ impl Hash for Text {
 
     ghost respects_eq = { Prim.search (hashing, rules) };
 
+    /// Hashes the bytes, so that texts that are equal have one hash.
     fn hash<H: Hasher>(&self, state: &mut H) {
         self.as_str().hash(state);
     }
@@ -274,6 +278,7 @@ impl PartialOrd for Text {
 
     ghost laws = { Prim.search (comparing, rules) };
 
+    /// The order is total, so there always is an answer.
     fn partial_cmp(&self, other: &Text) -> Option<Ordering> {
         Some(self.cmp(other))
     }
@@ -293,12 +298,14 @@ impl Ord for Text {
 
     ghost matches_eq = { Prim.search (comparing, rules) };
 
+    /// Texts are ordered by their bytes.
     fn cmp(&self, other: &Text) -> Ordering {
         self.as_str().cmp(other.as_str())
     }
 }
 
 impl fmt::Debug for Text {
+    /// Writes the text in quotes, with escapes.
     fn fmt<W: fmt::Write>(&self, f: &mut fmt::Formatter<W>) -> fmt::Result {
         fmt::Debug::fmt(&self.as_str(), f)
     }
@@ -309,6 +316,7 @@ impl fmt::Display for Text {
 
     ghost output = { λ t. Some t };
 
+    /// Writes the text itself.
     fn fmt<W: fmt::Write>(&self, f: &mut fmt::Formatter<W>) -> fmt::Result {
         f.write_str(self.as_str())
     }
@@ -317,6 +325,7 @@ impl fmt::Display for Text {
 impl AsStr for Text {
     ghost text = { λ t. t };
 
+    /// The text, for code that takes any such value.
     fn as_str(&self) -> &str {
         Text::as_str(self)
     }

@@ -17,42 +17,44 @@ use Rattle.cm_order.specs.declared.level.Level.{Level}
 use Rattle.cm_order.specs.Kids.{IsKid}
 use Rattle.cm_order.specs.Names.{node_in, dynamic_children}
 
--- something holds of each of a list
+-- P holds of all items
 abbrev pub EachOfList : {A : Type 0} → (A → Type 0) → List A → Type 0
 EachOfList P [] = Unit {0}
 EachOfList P (x ∷ xs) = P x × EachOfList P xs
 
--- what is kept of p itself, or of a child row of it
+-- what is kept of one member of p's level is right: of p itself, or of a child row
 pub record IsMember (rows : List Row) (p : ℕ) (m : Member) : Type 0 where
   pub place : (m.inc ≡ p) ⊎ IsKid rows p m.inc
   pub node : m.node ≡ node_in rows p m.inc
   pub shut : m.shut ≡ is_wholly_shut rows p m.inc
 
--- whether one of them is that row
+-- whether a row is among the members
 abbrev pub has_member : List Member → ℕ → Bool
 has_member members x = list_any (λ m. m.inc == x) members
 
--- each is a member, and each node of the level is among them
+-- the members of p's level: each is right, and p and all its children are among them
 pub record AreMembers (rows : List Row) (p : ℕ) (members : List Member) : Type 0 where
   pub each : EachOfList (IsMember rows p) members
   pub own : IsTrue (has_member members p)
   pub covers : (x : ℕ) → IsKid rows p x → IsTrue (has_member members x)
 
--- the graph by names, of a row with a declaration
+-- the graph of p's declaration by names, with the children in its collections
 pub record HasGraph (rows : List Row) (p : ℕ) (graph : Graph) : Type 0 where
   pub decl : Decl
   pub found : decl_of rows p ≡ Some decl
   pub by_names : IsGraphOf decl (dynamic_children rows p) graph
 
+-- the graph that is kept of p's level; none where p isn't resolved
 abbrev pub IsLevelGraph : List Row → ℕ → Option Graph → Type 0
 IsLevelGraph rows p None = decl_of rows p ≡ None
 IsLevelGraph rows p (Some graph) = HasGraph rows p graph
 
+-- what is kept of a level is right: its members and its graph
 pub record IsLevel (rows : List Row) (l : Level) : Type 0 where
   pub members : AreMembers rows l.own l.members.items
   pub graph : IsLevelGraph rows l.own l.graph
 
--- a doomed child depends on a node as a further child of its collection would
+-- a doomed child, which no name finds, depends on a node as a further child of its collection would
 pub record RowWould (rows : List Row) (d : Decl) (dynamic : List DynChild) (x : ℕ) (y : Node) : Type 0 where
   pub row : Row
   pub lives : row_of rows x ≡ Some row
@@ -67,6 +69,6 @@ abbrev pub MemberDepends : List Row → Decl → List DynChild → ℕ → Node 
 MemberDepends rows d dynamic x y None = RowWould rows d dynamic x y
 MemberDepends rows d dynamic x y (Some n) = DependsOn d dynamic n y
 
--- it doesn't bind the node: it is wholly shut, unless it doesn't depend on it
+-- a member doesn't bind the node: it doesn't depend on it, or is wholly shut
 abbrev pub LeavesFree : List Row → Decl → List DynChild → Node → Member → Type 0
 LeavesFree rows d dynamic y m = MemberDepends rows d dynamic m.inc y m.node → IsTrue m.shut

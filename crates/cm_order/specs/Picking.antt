@@ -1,5 +1,5 @@
 -- Inside.
--- What a pick comes to.
+-- What a pick comes to in a shutdown.
 use Rattle.std.specs.Prelude.{◌≡◌, ℕ, List, Bool, true, false, Some, IsTrue}
 use Rattle.cm_world.specs.declared.row.Row.{Row}
 use Rattle.cm_world.specs.declared.action.ActKind.{ActKind}
@@ -8,14 +8,14 @@ use Rattle.cm_world.specs.Stopping.{outermost, MayStop, MayPick, CanPick}
 use Rattle.cm_order.specs.declared.picking.Picked.{Picked}
 use Rattle.cm_order.specs.declared.picking.Picked.TheVariants.{StopNow, ShutNow, Waits, Done}
 
--- not all is shut, and this row may be picked; it is on, or off
+-- not all of the target is shut, and this row may be picked; `on` says whether it is on
 pub record PicksNow (rows : List Row) (target y : ℕ) (on : Bool) : Type 0 where
   pub undone : is_subtree_shut rows target ≡ false
   pub row : Row
   pub may : MayPick rows target y row
   pub state : row.on ≡ on
 
--- an action is pending at a row at or below the target's outermost closing row that isn't shut and may stop
+-- this action is pending at a row that isn't shut and could stop, in the shutdown of the target
 pub record BlockedBy (rows : List Row) (target a : ℕ) : Type 0 where
   pub inc : ℕ
   pub row : Row
@@ -28,20 +28,20 @@ pub record BlockedBy (rows : List Row) (target a : ℕ) : Type 0 where
   pub pending : row.pending ≡ Some (kind, a)
   pub may_stop : MayStop rows inc
 
--- not all is shut, no row may be picked, and this action is what is waited for
+-- not all of the target is shut, no row may be picked, and this action is what is waited for
 pub record PickWaitsFor (rows : List Row) (target a : ℕ) : Type 0 where
   pub undone : is_subtree_shut rows target ≡ false
   pub stuck : CanPick rows target → ⊥
   pub blocked : BlockedBy rows target a
 
--- done where all at and below the target is shut; else a row that may be picked, by whether it
--- is on; else what to wait for
+-- what a pick comes to: all of the target is shut; or a row that may be picked, by whether it is on;
+-- or what to wait for
 abbrev pub IsPicked : List Row → ℕ → Picked → Type 0
 IsPicked rows target Done = IsTrue (is_subtree_shut rows target)
 IsPicked rows target (StopNow y) = PicksNow rows target y true
 IsPicked rows target (ShutNow y) = PicksNow rows target y false
 IsPicked rows target (Waits a) = PickWaitsFor rows target a
 
--- not all at and below the target is shut, and a pick for it may choose this row
+-- not all of the target is shut, and a pick for it may choose this row
 abbrev pub MayBePicked : List Row → ℕ → ℕ → Type 0
 MayBePicked rows target y = (on : Bool) × PicksNow rows target y on

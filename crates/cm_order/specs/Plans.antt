@@ -1,5 +1,6 @@
 -- Inside.
--- What is known of ways down, between one pick and the next.
+-- What is kept of the search's way down from one pick to the next, so that the next begins where it
+-- ended.
 use Rattle.std.specs.Prelude.{◌≡◌, ℕ, List, [], Option, None, IfSome, IsTrue, ◌⊎◌}
 use Rattle.std.specs.Ordering.{nat_cmp}
 use Rattle.std.specs.BTreeMap.{get}
@@ -13,38 +14,40 @@ use Rattle.cm_order.specs.Kids.{IsKid}
 use Rattle.cm_order.specs.Levels.{EachOfList}
 use Rattle.cm_order.specs.Glances.{HasBound, AreKidsShut}
 
--- a row at or below the top, and each child row on the way down to it is free at its level
+-- row i is at or below the top, and each child row on the way down to it is free at its level
 pub record IsFreeOnTheWay (rows : List Row) (top i : ℕ) : Type 0 where
   pub below : IsTrue (is_below rows top i)
   pub free : (p c : ℕ) → IsKid rows p c → IsTrue (is_below rows top p) → IsTrue (is_below rows c i)
       → IsFree rows p c
 
--- each child row of p up to one is shut with all below it, or nothing is said
+-- each child row of p up to the given one is shut with all below it
 abbrev pub AreShutSoFar : List Row → ℕ → Option ℕ → Type 0
 AreShutSoFar rows p last =
     (c : ℕ) → IsKid rows p c → IsTrue (is_behind last c) ⊎ IsTrue (is_subtree_shut rows c)
 
--- what is put down of a level: its set has what something there depends on that isn't wholly shut, and the
--- children up to one are shut with all below them, or all are
+-- what is kept of one level is right: its set has what something unshut there depends on, and the
+-- children up to one, or all, are shut with all below them
 pub record IsKnownLevel (rows : List Row) (s : Stand) : Type 0 where
   pub named : IfSome s.named (HasBound rows s.inc)
   pub done : AreShutSoFar rows s.inc s.done
   pub below : IsTrue s.below_shut → AreKidsShut rows s.inc
 
+-- a level on the way down from the top: its row is reached by free rows, and what is kept of it is
+-- right
 pub record IsStand (rows : List Row) (top : ℕ) (s : Stand) : Type 0 where
   pub reached : IsFreeOnTheWay rows top s.inc
   pub known : IsKnownLevel rows s
 
--- the levels of a way down
+-- the levels of one way down from the top, each right
 abbrev pub IsDescent : List Row → ℕ → List Stand → Type 0
 IsDescent rows top stands = EachOfList (IsStand rows top) stands
 
--- each way leads down from its top
+-- all ways that are kept are right, each from its top
 pub record IsPlan (rows : List Row) (plan : DescentPlan) : Type 0 where
   pub way : IsDescent rows plan.top plan.way.items
   pub others : (top : ℕ) → IfSome (get nat_cmp plan.others top) (λ way. IsDescent rows top way.items)
 
--- it has no way
+-- no way is kept
 pub record KnowsNone (plan : DescentPlan) : Type 0 where
   pub way : plan.way.items ≡ []
   pub others : (top : ℕ) → get nat_cmp plan.others top ≡ None

@@ -62,7 +62,7 @@ pub(crate) fn glance<V: View>(
     Ok(VisitResult::Below(child))
 }
 
-/// The same of an instance below which all is known to be shut.
+/// The look at a level below which all is known to be shut: only the instance itself may stop.
 fn lowest<V: View>(view: &V, stand: &Stand) -> VisitResult
     requires sound { IsSound (V.rows view.now) (V.next_inc view.now) }
     requires known { IsKnownLevel (V.rows view.now) stand.now }
@@ -75,7 +75,7 @@ fn lowest<V: View>(view: &V, stand: &Stand) -> VisitResult
     VisitResult::Below(None)
 }
 
-/// The same of an instance without children.
+/// The look at the level of an instance without children: all below it is shut, so only it may stop.
 fn leaf<V: View>(view: &V, stand: &mut Stand) -> VisitResult
     requires sound { IsSound (V.rows view.now) (V.next_inc view.now) }
     requires known { IsKnownLevel (V.rows view.now) stand.old }

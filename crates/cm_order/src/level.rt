@@ -32,7 +32,8 @@ pub(crate) struct Level {
 }
 
 impl Level {
-    /// The level of the instance.
+    /// Reads the level of the instance: its members, and the graph of what depends on what among them,
+    /// for the whole search.
     pub(crate) fn of<V: View>(alloc: Global, view: &V, own: u64) -> Result<Level, Memory>
         ensures own { IfOk result (λ level. level.own ≡ own) }
         ensures level { IfOk result (IsLevel (V.rows view.now)) }

@@ -43,7 +43,7 @@ impl DescentPlan {
         }
     }
 
-    /// Forgets all levels.
+    /// Forgets all ways and levels, after which the next pick starts anew.
     pub fn forget(&mut self)
         ensures { KnowsNone self.new }
     {

@@ -22,7 +22,7 @@ use std::alloc::Global;
 /// How deep the arrays and objects that are read here may nest: as deep as a JSON text's may.
 const MAX_DEPTH: usize = 127;
 
-/// Whether the byte comes first.
+/// Whether the text begins with this byte.
 fn is_next(text: &[u8], byte: u8) -> bool
     ensures { result ≡ spec.begins byte text.now }
 {
@@ -39,7 +39,7 @@ fn is_space(byte: u8) -> bool
     matches!(byte, b' ' | b'\t' | b'\n' | b'\r')
 }
 
-/// Whether a space comes first.
+/// Whether the text begins with a space, which is passed over.
 fn begins_space(text: &[u8]) -> bool
     ensures { result ≡ bytes.begins_with bytes.is_space text.now }
 {
@@ -49,7 +49,7 @@ fn begins_space(text: &[u8]) -> bool
     }
 }
 
-/// What stands behind the spaces that come first.
+/// What stands after the spaces that come first.
 #[tactic(auto, using(crate::proofs::PlainLemmas::some_space, crate::proofs::PlainLemmas::space_passed))]
 fn behind_space(text: &[u8]) -> &[u8]
     ensures lexed { lex between result.now ≡ lex between text.now }
@@ -62,7 +62,7 @@ fn behind_space(text: &[u8]) -> &[u8]
     left
 }
 
-/// What stands behind a mark that is next.
+/// What stands after a mark that is next.
 #[tactic(auto, using(crate::proofs::PlainLemmas::some_first, crate::proofs::PlainLemmas::mark_passed,))]
 fn behind_mark(text: &[u8], mark: u8) -> Option<&[u8]>
     requires { class mark ≡ operator }
@@ -91,7 +91,7 @@ fn plain_len(text: &[u8]) -> usize
     text.iter().take_while(|byte| is_plain(**byte)).count()
 }
 
-/// The string that is next, if it is plain and memory allows, and what stands behind it.
+/// The string that is next, if it is plain and memory allows, and what stands after it.
 #[tactic(auto, using(crate::proofs::PlainLemmas::some_first, crate::proofs::PlainLemmas::string_passed,))]
 fn read_string(alloc: Global, text: &[u8]) -> Option<(String, &[u8])>
     ensures lexed { IfSome result (λ read.
@@ -113,7 +113,7 @@ fn read_string(alloc: Global, text: &[u8]) -> Option<(String, &[u8])>
     Some((string, &closed[1..]))
 }
 
-/// The value that is next, and what stands behind it, unless there is more to it or memory runs out.
+/// The value that is next, and what stands after it, unless there is more to it or memory runs out.
 #[cycle(read_value)]
 fn read_value(alloc: Global, text: &[u8], depth: usize) -> Option<(Value, &[u8])>
     ensures value { IfSome result (λ read. HasValue depth text.now (view read.0) read.1.now) }
@@ -151,7 +151,7 @@ fn read_item<'a>(
     Some(rest)
 }
 
-/// The items up to their closing bracket, and what stands behind it.
+/// The items up to their closing bracket, and what stands after it.
 #[cycle(read_value)]
 fn read_items(alloc: Global, text: &[u8], depth: usize) -> Option<(Vec<Value>, &[u8])>
     ensures items { IfSome result
@@ -189,7 +189,7 @@ fn read_member<'a>(
     Some(rest)
 }
 
-/// The members up to their closing brace, and what stands behind it.
+/// The members up to their closing brace, and what stands after it.
 #[cycle(read_value)]
 fn read_members(alloc: Global, text: &[u8], depth: usize) -> Option<(Map<String, Value>, &[u8])>
     ensures members { IfSome result
@@ -228,7 +228,7 @@ fn is_mark(byte: u8) -> bool
     matches!(byte, b'{' | b'}' | b'[' | b']' | b':' | b',')
 }
 
-/// Whether a mark comes first.
+/// Whether the text begins with a mark, such as a brace or a comma.
 fn begins_mark(text: &[u8]) -> bool
     ensures { result ≡ bytes.begins_with bytes.is_mark text.now }
 {
@@ -255,14 +255,14 @@ fn begins_closing(text: &[u8]) -> bool
     }
 }
 
-/// Whether a closing mark comes first, behind a comma.
+/// Whether a closing mark comes first, after a comma.
 fn closes_behind(comma: bool, text: &[u8]) -> bool
     ensures { result ≡ (comma && bytes.begins_with json_text.is_closing text.now) }
 {
     comma && begins_closing(text)
 }
 
-/// What stands behind a plain string that is next.
+/// What stands after a plain string that is next.
 fn behind_string(text: &[u8]) -> Option<&[u8]>
     ensures passed { IfSome result (λ rest. (c : Bool) → PassesPiece c text.now false rest.now) }
     ensures shorter { IfSome result (λ rest. length rest.now < length text.now) }
@@ -279,8 +279,8 @@ fn behind_string(text: &[u8]) -> Option<&[u8]>
     Some(&closed[1..])
 }
 
-/// What stands behind a space, a mark or a plain string that is next, and whether a comma is then the
-/// last token, by whether one was before it. A closing mark isn't taken behind a comma.
+/// What stands after a space, a mark or a plain string that is next, and whether a comma is then the
+/// last token, by whether one was before it. A closing mark isn't taken after a comma.
 fn behind_piece(text: &[u8], comma: bool) -> Option<(&[u8], bool)>
     ensures passed { IfSome result (λ read. PassesPiece comma text.now read.1 read.0.now) }
     ensures shorter { IfSome result (λ read. length read.0.now < length text.now) }

@@ -7,11 +7,12 @@ use Rattle.cm_program.specs.declared.stock.LoadedScript.{LoadedScript}
 use Rattle.cm_call.specs.declared.call.Wanted.{Wanted}
 use Rattle.cm_call.specs.declared.call.Wanted.TheVariants.{Answers}
 
--- a frame and commands that can be told of
+-- a journal can tell of this script: its frame and its commands are within what the journal's texts
+-- can say
 pub record IsLegibleServed (served : LoadedScript) : Type 0 where
   pub frame : IsLegibleFrame served.frame
   pub phases : All AreWritableLines served.phases
 
--- where the journal is wanted, it can be told of what is served
+-- where the answers and the journal are wanted, a journal can tell of this script
 abbrev pub MayTell : Wanted → LoadedScript → Type 0
 MayTell wanted served = wanted ≡ Answers true → IsLegibleServed served

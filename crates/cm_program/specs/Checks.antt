@@ -18,8 +18,8 @@ use Rattle.cm_storage.specs.declared.fault.StorageNote.{StorageNote}
 use Rattle.cm_storage.specs.Faults as storage
 use Rattle.cm_storage.specs.Texts as storage_text
 
--- the status and the line of what was read of a manifest: its first fault, by reading, then by validity, then
--- of its environments and then of its storage, or that it is valid
+-- the status and the line for what was read of a manifest: its first fault, which is looked for by
+-- reading, then by validity, then in its environments and then in its storage; or that it is valid
 pub data IsJudged (read : Result Decl ReadFault) : ℕ → List ℕ → Type 0 where
   valid : {d : Decl} → read ≡ Ok d → IsValid d → environments.HasNoFault d → storage.HasNoStorageFault d
       → IsJudged read 0 (codes "valid\n")
@@ -33,16 +33,16 @@ pub data IsJudged (read : Result Decl ReadFault) : ℕ → List ℕ → Type 0 w
   unstored : {d : Decl} {n : StorageNote} → read ≡ Ok d → IsValid d → environments.HasNoFault d
       → storage.JudgesStorage d (Err n) → IsJudged read 1 (storage_text.note_text n ++ codes "\n")
 
--- the status and the line of the manifest that the bytes are
+-- these bytes, read as a manifest, get this status and this line
 abbrev pub IsManifestVerdict : List ℕ → ℕ → List ℕ → Type 0
 IsManifestVerdict bytes status line = IsJudged (decl_of_bytes bytes) status line
 
--- the manifest that all these bytes are has this status, and this was written of its line
+-- the bytes get this status, and their line was written as `written` says
 pub record IsChecked (written : List ℕ → Type 0) (status : ℕ) (bytes : List ℕ) : Type 0 where
   pub line : List ℕ
   pub verdict : IsManifestVerdict bytes status line
   pub out : written line
 
--- the manifest has some status, and this was written of its line
+-- the bytes get some status, and their line was written as `written` says
 abbrev pub IsVerdictWritten : (List ℕ → Type 0) → List ℕ → Type 0
 IsVerdictWritten written bytes = (status : ℕ) × IsChecked written status bytes

@@ -10,7 +10,7 @@ use Rattle.cm_session.specs.Links.{LinkView}
 use Rattle.cm_program.specs.Promise.{Given, Promise}
 use Rattle.cm_program.specs.declared.ran.Ran.{Ran}
 
--- nothing failed yet
+-- no stream had a fault before the run
 pub record IsNew {S K E D G : Type 0}
     (as_source : source.Ghosts S) (as_out : sink.Ghosts K) (as_err : sink.Ghosts E)
     (was : Given S K E D G) : Type 0 where
@@ -22,7 +22,7 @@ module _ {S K E D L G : Type 0}
     (as_source : source.Ghosts S) (as_out : sink.Ghosts K) (as_err : sink.Ghosts E)
     (counts_of : D → DoorCounts) (place_of : D → DoorPlace) (view : L → LinkView)
     (log_of : G → Option (List GateCall)) (faults_of : G → ℕ) where
-  -- these words were run once, on streams that hadn't failed, and this came of it
+  -- these words were run once, on streams without a fault, the promise was kept, and this came of it
   pub data IsRun (words : List (List ℕ)) (input : S) (out : K) (err : E) (ran : Ran D L G) : Type 0 where
     run_of : (was : Given S K E D G) → was.words ≡ words → IsNew as_source as_out as_err was
         → Promise as_source as_out as_err counts_of place_of view log_of faults_of was

@@ -1,5 +1,6 @@
 -- Inside.
--- When a run is complete: what is left of the statuses where nothing failed, and what 0 says of each line.
+-- When a run is complete: which statuses are left where nothing failed, and what status 0 says of each
+-- line.
 use Rattle.std.specs.Prelude.{◌≡◌, ◌⊎◌, ℕ, List, All, length, Option, None, Some, Ok}
 use Rattle.std.specs.Io.KnownBytes.{Appends, IsAtEnd}
 use Rattle.cm_io.specs.Doors.{DoorPlace}
@@ -24,13 +25,13 @@ use Rattle.cm_program.specs.declared.stock.LoadedScript.{LoadedScript}
 use Rattle.cm_call.specs.declared.call.Wanted.{Wanted}
 use Rattle.cm_call.specs.declared.call.Wanted.TheVariants.{Summary}
 
--- the bytes are known, and have none of a script's faults
+-- the bytes are known, and a script without a fault
 pub record AreFaultless (left : Option (List ℕ)) : Type 0 where
   pub bytes : List ℕ
   pub known : left ≡ Some bytes
   pub none : (fault : ScriptRefusal) → IsScriptRefusal bytes fault → ⊥
 
--- it was done, or memory ran out
+-- the run was done, or memory ran out
 abbrev pub IsDone : ℕ → Type 0
 IsDone status = (status ≡ 0) ⊎ (status ≡ 6)
 
@@ -40,18 +41,18 @@ module _ {S K E D L G : Type 0}
     (counts_of : D → DoorCounts) (place_of : D → DoorPlace) (view : L → LinkView)
     (log_of : G → Option (List GateCall)) (faults_of : G → ℕ)
     (was : Given S K E D G) (now : Came S K E D L G) where
-  -- no count of faults rose: of the input, the output and the door
+  -- neither the input nor the output nor the door failed in this run
   pub record FailsNowhere : Type 0 where
     pub input : Rose (as_source.faults was.input) (as_source.faults now.input) → ⊥
     pub out : Rose (as_out.faults was.out) (as_out.faults now.out) → ⊥
     pub door : Rose (counts_of was.door).faults (counts_of now.ran.door).faults → ⊥
 
-  -- no gate's count rose
+  -- no gate failed in this run
   abbrev pub NoGateCountRose : Type 0
   NoGateCountRose = AreSound faults_of was.gates now.ran.gates
 
-  -- each line of the script has its answer, none of them lack of memory, and all of the text was written;
-  -- where no gate's count rose, no answer names a failed gate or a stop by force
+  -- each line of the script has its answer, none of them for lack of memory, and all of the text was
+  -- written; where no gate failed, no answer names a failed gate or a stop by force
   pub record AnswersAll (wanted : Wanted) (folder : Option (List ℕ)) (served : LoadedScript) : Type 0 where
     pub runs : RunsIt as_source as_out as_err counts_of place_of view log_of faults_of was now
         wanted folder served
@@ -59,12 +60,12 @@ module _ {S K E D L G : Type 0}
     pub had_memory : All (All AnsweredWithMemory) runs.answered
     pub unfailing : NoGateCountRose → AreUnfailing runs.answered
 
-  -- the sessions, where no gate's count rose: no answer names a failed gate or a stop by force
+  -- sessions were served; where no gate failed, no answer names a failed gate or a stop by force
   pub record AnswersLinks (o : ServeOptions) : Type 0 where
     pub serves : OfServe as_source as_out as_err counts_of place_of view log_of faults_of was now o
     pub unfailing : NoGateCountRose → AreUnfailingSats serves.sessions.sats
 
-  -- what a run that kept its promise is
+  -- what a run that kept its promise is, where nothing failed and, at status 0, for each line
   pub record IsComplete : Type 0 where
     -- where nothing failed, the words of `run` and of the reports are done for bytes without a fault,
     pub run : (o : RunOptions) → words_of was.words ≡ Ok (call.Run o)
@@ -102,7 +103,7 @@ module _ {S K E D L G : Type 0}
         → Rose (as_source.faults was.input) (as_source.faults now.input) → ⊥
     pub quiet_gates : ((g : G) → faults_of g ≡ 0) → NoGateCountRose
 
-  -- whatever kept the promise over sixteen gates is complete so
+  -- whatever run of sixteen gates kept the promise is complete
   abbrev pub Completes : Type 0
   Completes = length was.gates ≡ 16
       → Promise as_source as_out as_err counts_of place_of view log_of faults_of was now → IsComplete

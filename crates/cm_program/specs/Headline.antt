@@ -24,17 +24,17 @@ use Rattle.cm_program.specs.declared.stock.LoadedScript.{LoadedScript}
 use Rattle.cm_call.specs.declared.call.Wanted.{Wanted}
 use Rattle.cm_call.specs.declared.call.Wanted.TheVariants.{Answers}
 
--- where manifests are looked for: in the script's blocks, and then by the gates, in that folder if one is
--- named
+-- where the manifests of a script's run are looked for: in its own blocks, and else by the gates, in
+-- that folder if one is named
 abbrev pub manifests_of : Option (List ℕ) → LoadedScript → Manifests
 manifests_of folder served = record { repo = folder; blocks = served.repository }
 
--- the line was answered, and not for lack of memory
+-- the line's answer isn't one for lack of memory
 abbrev pub AnsweredWithMemory : AnsweredLine → Type 0
 AnsweredWithMemory a = a.result ≢ Err refusal.Memory
 
--- what the lanes make of these lines is this history: a legal one from that frame, in which each lane's
--- entries are those of its own lines in order, phase after phase
+-- performing these lines in lanes makes this history: a legal one of a realm with that frame, in which
+-- each lane's entries are those of its own lines in order, phase after phase
 pub record MakesHistory
     (f : Frame) (phases : List (List Line)) (answered : List (List AnsweredLine)) (history : List Entry)
     : Type 0 where
@@ -43,14 +43,13 @@ pub record MakesHistory
   pub performed : ArePhases (λ c. f) answered [] history
   pub callers : All (λ (e : Entry). e.caller < 16) history
 
--- what holds of the history of every run: it keeps the laws of every legal history, and each action that was
--- begun has its end
+-- what holds of the history of every run: it keeps all laws, and each action that was begun has its
+-- end
 pub record EndsWell (f : Frame) (history : List Entry) : Type 0 where
   pub laws : KeepsLaws f history
   pub ends : HasEnds history
 
--- a history that a run leaves, whatever was asked and wherever the script came from: a legal one of some
--- realm
+-- what every run leaves, whatever was asked: a legal history of some realm that ends well
 pub record IsHistory (history : List Entry) : Type 0 where
   pub frame : Frame
   pub legal : Legal (start frame) history
@@ -61,13 +60,14 @@ abbrev pub RunsNothing : {G : Type 0} → List Entry → List G → List G → T
 RunsNothing history gates₀ gates₁ = (history ≡ []) × (gates₁ ≡ gates₀)
 
 module _ {G : Type 0} (log_of : G → Option (List GateCall)) (faults_of : G → ℕ) where
-  -- each lane's entries owe their ends to the manifests and to that lane's gates
+  -- each gate was asked exactly what the entries of its own lane owe to the outside
   abbrev pub WorksEach : Manifests → List Entry → List G → List G → Type 0
   WorksEach manifests history gates₀ gates₁ =
       (k : ℕ) (g h : G) → slice_get gates₀ k ≡ Some g → slice_get gates₁ k ≡ Some h
       → WorksWith manifests (own_entries k history) (log_of g) (log_of h) (faults_of g) (faults_of h)
 
-  -- the run of a script that is served: its history, what is wanted of it, and what was written of that
+  -- the run of a script: its history, the work of its gates, the text that is wanted of it, and what
+  -- was written of that
   pub record RunsScript
       (wanted : Wanted) (folder : Option (List ℕ)) (served : LoadedScript) (gates₀ gates₁ : List G)
       (history : List Entry) (status : ℕ) (out₀ out₁ : Option (List ℕ)) : Type 0 where

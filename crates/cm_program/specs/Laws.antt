@@ -13,15 +13,15 @@ use Rattle.cm_program.specs.Run.{IsFaulty}
 use Rattle.cm_program.specs.Stock.{LoadsScript}
 use Rattle.cm_program.specs.declared.stock.LoadedScript.{LoadedScript}
 
--- bytes that are served are not refused
+-- bytes that are a script without a fault aren't refused
 abbrev pub ServedAreNotRefused : Type 0
 ServedAreNotRefused = (bytes : List ℕ) (served : LoadedScript) → LoadsScript bytes served → IsFaulty bytes → ⊥
 
--- what bytes ask for is one thing
+-- the same bytes ask for one thing at most
 abbrev pub BytesAskForOne : Type 0
 BytesAskForOne = (bytes : List ℕ) (a b : LoadedScript) → LoadsScript bytes a → LoadsScript bytes b → a ≡ b
 
--- whatever was given and came of it, a run that kept its promise is complete
+-- every run that kept its promise is complete
 abbrev pub RunsAreComplete : {S K E D L G : Type 0} → source.Ghosts S → sink.Ghosts K → sink.Ghosts E
     → (D → DoorCounts) → (D → DoorPlace) → (L → LinkView) → (G → Option (List GateCall)) → (G → ℕ) → Type 0
 RunsAreComplete {S} {K} {E} {D} {L} {G} as_source as_out as_err counts_of place_of view log_of faults_of =

@@ -1,5 +1,5 @@
 -- Inside.
--- What the lanes made of a script.
+-- What the lanes made of a script, before anything is printed.
 use Rattle.std.specs.Prelude.{◌≡◌, ℕ, List, map, flat_map, Option, IfSome}
 use Rattle.cm_world.specs.declared.frame.Frame.{Frame}
 use Rattle.cm_cache.specs.Keeping.{IsKeptNumber}
@@ -13,8 +13,8 @@ use Rattle.cm_program.specs.Headline.{MakesHistory, WorksEach}
 use Rattle.cm_program.specs.declared.performing.LanesResult.{LanesResult}
 
 module _ {G : Type 0} (log_of : G → Option (List GateCall)) (faults_of : G → ℕ) where
-  -- the lines of all phases were run, and these are the history, how many of its answers to uses were still
-  -- there, the gates and, if there was memory for them, the answers
+  -- the lines of all phases were performed: this is the history, this many of its answers to uses were
+  -- cache hits, and these are the gates and, where there was memory for them, the answers
   pub record RunsPhases
       (manifests : Manifests) (f : Frame) (phases : List (List Line)) (gates₀ : List G) (done : LanesResult G)
       : Type 0 where

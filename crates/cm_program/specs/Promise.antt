@@ -42,7 +42,7 @@ pub record Given (S K E D G : Type 0) : Type 0 where
   pub door : D
   pub gates : List G
 
--- what came of it: the streams as they are behind the call, and what the call returned
+-- what came of a run: its streams as they are after the call, and what the call returned
 pub record Came (S K E D L G : Type 0) : Type 0 where
   pub input : S
   pub out : K
@@ -55,7 +55,7 @@ module _ {S K E D L G : Type 0}
     (counts_of : D → DoorCounts) (place_of : D → DoorPlace) (view : L → LinkView)
     (log_of : G → Option (List GateCall)) (faults_of : G → ℕ)
     (was : Given S K E D G) (now : Came S K E D L G) where
-  -- the run of this script, of which this is wanted
+  -- this script was run, and this is wanted of it
   abbrev pub RunsIt : Wanted → Option (List ℕ) → LoadedScript → Type 0
   RunsIt wanted folder served =
       RunsScript log_of faults_of wanted folder served was.gates now.ran.gates now.ran.book.entries
@@ -153,7 +153,8 @@ module _ {S K E D L G : Type 0}
     pub place : now.ran.status ≡ 0 → IsOpenAt o.socket (place_of now.ran.door)
     pub untouched : (now.input ≡ was.input) × (now.out ≡ was.out)
 
-  -- what the program promises
+  -- what the program promises of every run, whatever its words, its input and the outside are; the top
+  -- call ensures it
   pub record Promise : Type 0 where
     -- 2 comes only where the words ask for nothing,
     pub usage : now.ran.status ≡ 2 → words_of was.words ≡ Err fault.Usage

@@ -17,13 +17,13 @@ use Rattle.cm_call.specs.declared.call.Wanted.TheVariants.{Answers, Summary, Env
 abbrev pub rows_after : Frame → List Entry → List Row
 rows_after f history = (replay (start f) history).rows
 
--- the report on a tree of these rows below these builtins, where one is wanted
+-- the report on a tree with these rows and builtins, where one is wanted
 abbrev pub IsReportOn : Wanted → List Row → List Builtin → TextBytes → Type 0
 IsReportOn Environments rows builtins report = report ≡ env_report rows
 IsReportOn Storage rows builtins report = IsStorageReport rows builtins report
 IsReportOn (Answers journal) rows builtins report = report ≡ []
 IsReportOn (Summary instances) rows builtins report = report ≡ []
 
--- that on the tree that a history leaves
+-- the report on the tree that a history leaves, where one is wanted
 abbrev pub IsReport : Wanted → Frame → List Entry → TextBytes → Type 0
 IsReport wanted f history report = IsReportOn wanted (rows_after f history) f.builtins report

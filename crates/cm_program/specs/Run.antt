@@ -1,5 +1,5 @@
 -- Promised.
--- What a run promises.
+-- What the words of a run ask for, and which statuses they may end with.
 use Rattle.std.specs.Prelude.{◌≡◌, ◌⊎◌, ℕ, List, Option, Ok}
 use Rattle.cm_command.specs.declared.script.Script.{Script}
 use Rattle.cm_call.specs.Calls.{words_of}
@@ -55,62 +55,67 @@ AsksRealm words = AsksScript words ⊎ AsksServe words
 -- the bytes that a source had left are refused, or some bytes are where it tells none; and the line that says
 -- why is said on the error stream
 module _ {E : Type 0} (written_of : E → Option (List ℕ)) (faults_of : E → ℕ) where
+  -- the bytes that the source had left are refused, or some bytes are where the source doesn't tell
+  -- them; and the error stream has the line that says why
   pub record IsRefused (left : Option (List ℕ)) (err_old err_new : E) : Type 0 where
     pub fault : ScriptRefusal
     pub faulty : OfSome (λ bytes. IsScriptRefusal bytes fault) left
     pub said : IsSaid written_of faults_of err_old err_new (fault_line fault)
 
--- of some script that is served this holds: the one that the bytes are which a source had left, or one that
--- some bytes are where it tells none; or memory ran out before there was one, and then this holds
+-- P holds of some script: the one that the source had left, or one of some bytes where the source
+-- doesn't tell them; or memory ran out before there was one, and then Idle holds
 unfoldable pub RunsSome : (LoadedScript → Type 0) → Type 0 → ℕ → Option (List ℕ) → Type 0
 RunsSome P Idle status left =
     ((served : LoadedScript) × (OfSome (λ bytes. LoadsScript bytes served) left × P served))
     ⊎ ((status ≡ 6) × Idle)
 
--- whichever script that is served the bytes are, this holds of it; they are one at most
+-- P holds of the script that these bytes are, if they are one
 abbrev pub RunsAsServed : (LoadedScript → Type 0) → List ℕ → Type 0
 RunsAsServed P bytes = (served : LoadedScript) → LoadsScript bytes served → P served
 
--- where this script is served, this holds of what it asks for; and it is served where the run came to its end
+-- P holds of what this script asks for, where nothing of it is refused; and nothing was where the run
+-- came to its end
 pub record RunsOwn (P : LoadedScript → Type 0) (script : Script) (status : ℕ) : Type 0 where
   pub runs : (served : LoadedScript) → served_script script ≡ Ok served → P served
   pub is_served : (status ≡ 0) ⊎ (status ≡ 4) → (served : LoadedScript) × (served_script script ≡ Ok served)
 
--- the bytes are refused, or they are no script that is served
+-- the bytes are no script that can be run
 pub data IsFaulty (bytes : List ℕ) : Type 0 where
   refused : (fault : ScriptRefusal) → IsScriptRefusal bytes fault → IsFaulty bytes
   unserved : ((served : LoadedScript) → LoadsScript bytes served → ⊥) → IsFaulty bytes
 
--- how a fault stops a run
+-- how a refusal stops a run
 abbrev pub stop_of : ScriptRefusal → Stop
 stop_of (fault.Unread line number at) = Refused (fault.Unread line number at)
 stop_of (fault.Unserved line problem) = Refused (fault.Unserved line problem)
 stop_of fault.Memory = Memory
 
--- why a script stopped a run
+-- why a run stopped before its script was performed
 abbrev pub ScriptStops : Stop → Option (List ℕ) → Type 0
 ScriptStops ReadFault left = Unit {0}
 ScriptStops Memory left = Unit {0}
 ScriptStops (Refused fault) left = OfSome (λ bytes. IsScriptRefusal bytes fault) left
 
--- a faulty script's statuses: refused, or the source failed or memory ran out before that was known
+-- the status of a script that is refused: 7, or 3 and 6 where the source failed or memory ran out
+-- before
 abbrev pub IsRefusalStatus : ℕ → Type 0
 IsRefusalStatus status = (status ≡ 7) ⊎ ((status ≡ 3) ⊎ (status ≡ 6))
 
--- the status of a script's run: all was written, the output failed, or memory ran out
+-- the status of a script that was run: 0 where all was written, 4 where the output failed, 6 where
+-- memory ran out
 abbrev pub IsScriptRun : ℕ → Type 0
 IsScriptRun status = (status ≡ 0) ⊎ ((status ≡ 4) ⊎ (status ≡ 6))
 
--- the status of words of `run`
+-- a status that `run`, `environments` and `storage` may end with
 abbrev pub IsScriptStatus : ℕ → Type 0
 IsScriptStatus status = IsScriptRun status ⊎ ((status ≡ 3) ⊎ (status ≡ 7))
 
--- the status of sessions: as many links came as were asked for or none comes, the door failed, or memory
--- ran out
+-- a status that `serve` may end with: 0 where as many links came as were asked for or none comes, 5
+-- where the door failed, 6 where memory ran out
 abbrev pub IsServeStatus : ℕ → Type 0
 IsServeStatus status = (status ≡ 0) ⊎ ((status ≡ 5) ⊎ (status ≡ 6))
 
--- the status of words of `check`, and of words of `audit`
+-- a status that `check` and `audit` may end with
 abbrev pub IsCheckStatus : ℕ → Type 0
 IsCheckStatus status =
     (status ≡ 0) ⊎ ((status ≡ 1) ⊎ ((status ≡ 3) ⊎ ((status ≡ 4) ⊎ (status ≡ 6))))

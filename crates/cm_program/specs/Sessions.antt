@@ -33,11 +33,12 @@ use Rattle.cm_call.specs.declared.call.ServeOptions.{ServeOptions}
 
 -- ---- what sessions are served over
 
--- the realm: nothing stands above its root, and its limits are those of every run
+-- what the realm of `serve` is made with: the root that its words name, no builtins, and the limits of
+-- every run
 abbrev pub served_frame : ServeOptions → Frame
 served_frame o = record { root = o.root; builtins = []; limits = limits }
 
--- manifests are asked of the gates alone, in that folder
+-- where `serve` looks for manifests: in the folder that its words name, by the gates alone
 abbrev pub served_manifests : ServeOptions → Manifests
 served_manifests o = record { repo = Some o.repository; blocks = [] }
 
@@ -48,11 +49,12 @@ abbrev pub before_quit : List TextBytes → List TextBytes
 before_quit [] = []
 before_quit (t ∷ ts) = cond (bytes_eq t quit) [] (t ∷ before_quit ts)
 
--- the lines of these bytes that a session has: those before the first `quit`, and at most so many
+-- the lines of these bytes that a session performs: those before the first `quit`, and at most as many
+-- as it may have
 abbrev pub session_lines : TextBytes → List TextBytes
 session_lines bytes = take most_lines (before_quit (lines bytes))
 
--- those of them that a line feed ends
+-- the lines that a session performs, without a last one that no line feed ended
 abbrev pub whole_session_lines : TextBytes → List TextBytes
 whole_session_lines bytes = take most_lines (before_quit (whole_lines bytes))
 
@@ -64,15 +66,15 @@ pub record SessionRecord : Type 0 where
   pub lines_done : List TextBytes
   pub told : List LineOutcome
 
--- all lines of the session were served, and no byte was left behind them unless a whole line `quit` or
--- their number ended it
+-- all lines of the session were served, and no byte was left unread, unless `quit` or the number of
+-- lines ended it
 pub record ServedAllLines (left : Option TextBytes) (sat : SessionRecord) : Type 0 where
   pub served : sat.lines_done ≡ session_lines sat.bytes
   pub nothing_left : IsAtEnd left
       ⊎ (Contains (whole_lines sat.bytes) quit ⊎ (length sat.lines_done ≡ most_lines))
 
 module _ {L : Type 0} (view : L → LinkView) where
-  -- what came of a link that was new, by its own counts and the status of the run
+  -- what came of a link that was new, by its own counts of faults and the status of the run
   pub record IsSessionOf (status : ℕ) (now : LinkView) (sat : SessionRecord) : Type 0 where
     pub came : L
     pub new : IsNewLink (view came)
@@ -94,7 +96,7 @@ module _ {L : Type 0} (view : L → LinkView) where
     -- whatever the status, no line but a link's last was answered for lack of memory
     pub out_of_memory_last : OutOfMemoryLast sat.told
     -- the order, where the link tells it: the reads, which gave these bytes, and the writes, so that each
-    -- reply was written before it was read on behind its line; and behind all of them, once, the hang-up
+    -- reply was written before it was read on after its line; and after all of them, once, the hang-up
     pub moves : List Move
     pub in_step : InStep (map reply_line sat.told) moves
     pub reads_are : given_in moves ≡ sat.bytes
@@ -102,13 +104,14 @@ module _ {L : Type 0} (view : L → LinkView) where
 
 -- ---- all links
 
--- what came of one worker's links, in their order
+-- what came of the links of worker k, in their order
 abbrev pub sats_by : ℕ → List (Back LinkView) → List SessionRecord → List SessionRecord
 sats_by k [] sats = []
 sats_by k (b ∷ bs) [] = []
 sats_by k (b ∷ bs) (s ∷ ss) = cond (nat_eq b.worker k) (s ∷ sats_by k bs ss) (sats_by k bs ss)
 
--- a caller performs the commands of one session after another, and makes no entry besides
+-- between two places of the history a caller performs the commands of one session after another, and
+-- adds no entry besides
 pub data FollowsEach (f : Frame) (c : ℕ) : List SessionRecord → List Entry → List Entry → Type 0 where
   none_left : {h₀ h₁ : List Entry} → IsLaterHistory c h₀ h₁ → FollowsEach f c [] h₀ h₁
   one_first : {s : SessionRecord} {others : List SessionRecord} {h₀ h₁ h₂ : List Entry}
@@ -122,8 +125,8 @@ AreByWorker k [] = ⊤
 AreByWorker k (b ∷ bs) = (k ≤ b.worker) × AreByWorker b.worker bs
 
 module _ {G L : Type 0} (log_of : G → Option (List GateCall)) (faults_of : G → ℕ) (view : L → LinkView) where
-  -- the sessions of a run: what came of each link, and the history, in which each worker's entries are those
-  -- of the commands of its links, in their order
+  -- the sessions of a run: what came of each link, and the history, in which each worker's entries are
+  -- those of the commands of its links, in their order
   pub record RunsSessions
       (f : Frame) (manifests : Manifests) (workers : ℕ) (gates₀ gates₁ : List G) (history : List Entry)
       (links : List (Back LinkView)) (status : ℕ) : Type 0 where
@@ -139,8 +142,8 @@ module _ {G L : Type 0} (log_of : G → Option (List GateCall)) (faults_of : G �
 
   -- ---- a door
 
-  -- what came of a door whose links were served: the sessions of the links, and what its own counts say of
-  -- them, from before to now. As many links come back as it gave, and no more than were asked for
+  -- what came of a door whose links were served: the sessions, and what the door itself counted. As
+  -- many links come back as it gave, and no more than were asked for
   pub record Attended {D : Type 0} (counts_of : D → DoorCounts)
       (f : Frame) (manifests : Manifests) (sessions workers : ℕ) (gates : List G) (before : DoorCounts)
       (ran : Ran D L G) : Type 0 where
@@ -157,7 +160,7 @@ module _ {G L : Type 0} (log_of : G → Option (List GateCall)) (faults_of : G �
     pub failed : ran.status ≡ 5 → Rose before.faults (counts_of ran.door).faults
     pub others : IsServeStatus ran.status
 
--- why no more links were served, as a status
+-- the status of a run that served links, by why it ended
 abbrev pub status_of : Cause → ℕ
 status_of cause.Done = 0
 status_of cause.DoorFault = 5

@@ -13,7 +13,7 @@ use cm_names::{List, Memory};
 use cm_reply::{push_entry, push_reply};
 use cm_world::Entry;
 
-/// Puts the answer to a line behind the text: the lane, a space, the answer and a line feed.
+/// Puts the answer to a line after the text: the lane, a space, the answer and a line feed.
 #[tactic(auto, unfolding(crate::specs::Printed::line_text))]
 fn push_answer(text: &mut String, line: &Line, said: &Said) -> Result<(), Memory>
     ensures { let more = line_text line.now said.now.result in
@@ -26,8 +26,8 @@ fn push_answer(text: &mut String, line: &Line, said: &Said) -> Result<(), Memory
     Ok(())
 }
 
-/// Puts the answers to these lines behind the text. The first of them stands at `from`; the result
-/// is the place behind the last.
+/// Puts the answers to these lines after the text. The first of them stands at `from`; the result
+/// is the place after the last.
 fn push_lines(
     text: &mut String,
     lines: &[Line],
@@ -49,7 +49,7 @@ fn push_lines(
     Ok(at)
 }
 
-/// Puts the answers to the lines of all phases behind the text.
+/// Puts the answers to the lines of all phases after the text.
 pub fn push_answers(text: &mut String, phases: &[List<Line>], said: &[Said]) -> Result<(), Memory>
     ensures { OnOk result (string_bytes text.new
         ≡ string_bytes text.old ++ texts_of (flat_map (λ lines. lines) phases.now) said.now) }
@@ -61,7 +61,7 @@ pub fn push_answers(text: &mut String, phases: &[List<Line>], said: &[Said]) -> 
     Ok(())
 }
 
-/// Puts a line of the journal behind the text for each entry of the history.
+/// Puts a line of the journal after the text for each entry of the history.
 pub fn push_entries(text: &mut String, entries: &[Entry]) -> Result<(), Memory>
     ensures { let more = entries_text 1 entries.now in
         OnOk result (string_bytes text.new ≡ string_bytes text.old ++ more) }

@@ -21,7 +21,7 @@ use std::thread::Threads;
 /// further at most.
 const JOURNAL_LIMIT: usize = 268_435_456;
 
-/// The status of a verdict.
+/// The status that `audit` ends with for this verdict: 0 for a legal journal, else 1.
 fn status_of(found: &Audit) -> u8
     ensures status { result ≡ spec.status_of found.now }
     ensures bound { (result ≡ 0) ⊎ (result ≡ 1) }
@@ -33,7 +33,7 @@ fn status_of(found: &Audit) -> u8
     }
 }
 
-/// The line of a verdict.
+/// The line that `audit` writes for this verdict. `Err` where memory runs out.
 fn verdict_line(alloc: Global, found: &Audit) -> Result<Text, Memory>
     ensures { IfOk result (λ text. text ≡ spec.verdict_line found.now) }
 {

@@ -51,6 +51,7 @@ pub enum NoVerdict {
     Memory,
 }
 
+/// The line of `check` for a manifest that can't be read.
 fn unread_line(alloc: Global, fault: &ReadFault) -> Result<Text, Memory>
     ensures { IfOk result (λ text. text ≡ read_text.fault_text fault.now ++ codes "\n") }
 {
@@ -59,6 +60,7 @@ fn unread_line(alloc: Global, fault: &ReadFault) -> Result<Text, Memory>
     Ok(text)
 }
 
+/// The line of `check` for a declaration that isn't valid.
 fn invalid_line(alloc: Global, fault: &ValidFault) -> Result<Text, Memory>
     ensures { IfOk result (λ text. text ≡ valid_text.fault_text fault.now ++ codes "\n") }
 {

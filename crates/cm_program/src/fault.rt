@@ -19,6 +19,7 @@ impl fmt::Display for Problem {
 
     ghost output = { λ p. Some (problem_text p) };
 
+    /// Writes the number and the word of the problem.
     fn fmt<W: fmt::Write>(&self, f: &mut fmt::Formatter<W>) -> fmt::Result {
         match self {
             Problem::BadManifestUrl => f.write_str("77 bad-manifest-url"),
@@ -53,6 +54,7 @@ impl fmt::Display for ScriptRefusal {
 
     ghost output = { λ fault. Some (fault_text fault) };
 
+    /// Writes why the script is refused, with its line.
     fn fmt<W: fmt::Write>(&self, f: &mut fmt::Formatter<W>) -> fmt::Result {
         match self {
             ScriptRefusal::Unread { line, number, at } => {
@@ -75,6 +77,7 @@ impl From<Memory> for ScriptRefusal {
 
     ghost from_gives = { λ _ e. e ≡ OutOfMemory };
 
+    /// For `?` after a call that lacked memory.
     fn from(_: Memory) -> ScriptRefusal {
         ScriptRefusal::Memory
     }

@@ -22,7 +22,7 @@ use std::thread::Threads;
 /// Runs the program with these words, on this input, with these outputs, this door and these gates.
 ///
 /// The words `run [--journal] [--repo DIR]` ask for the answers to the commands of the script that
-/// the input is, with `--journal` for the history behind them, and with `--repo DIR` for manifests
+/// the input is, with `--journal` for the history after them, and with `--repo DIR` for manifests
 /// of that folder besides the script's. The word `check` asks for the verdict on the manifest that
 /// the input is. The words `generate G N` ask for the run of a workload of N instances, which is
 /// made from G and for which the input isn't read: the one line that is written counts its answers,

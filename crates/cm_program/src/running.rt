@@ -71,7 +71,7 @@ fn is_out_of_memory(said: &[Said]) -> bool
         .any(|s| matches!(s.result, Err(Refusal::Memory)))
 }
 
-/// The answers, and behind them the journal where it is wanted.
+/// The answers, and after them the journal where it is wanted.
 fn answers_text(
     alloc: Global,
     phases: &[List<Line>],
@@ -92,7 +92,7 @@ fn answers_text(
     Text::from_string(text)
 }
 
-/// All that is printed.
+/// All that is printed of a run, by what is wanted. `Err` where memory runs out.
 fn text_of(
     alloc: Global,
     phases: &[List<Line>],

@@ -86,6 +86,7 @@ fn read_served<R: Threads + Wait + Sync, S: Source>(
     }
 }
 
+/// The line on the error stream that says why a script is refused.
 fn fault_line(alloc: Global, fault: ScriptRefusal) -> Result<Text, Memory>
     ensures { IfOk result (λ text. text ≡ spec.fault_line fault) }
 {

@@ -51,7 +51,7 @@ fn stock(repository: &mut Repository, block: Block) -> Result<(), ScriptRefusal>
     }
 }
 
-/// The repository of all blocks.
+/// The repository of all manifests that the script brings itself, or the first that is refused.
 fn stock_all(alloc: Global, blocks: List<Block>) -> Result<Repository, ScriptRefusal>
     ensures { GivesOutcome result (spec.stock_of [] blocks) }
 {

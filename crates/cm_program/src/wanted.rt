@@ -16,7 +16,7 @@ fn is_started(answer: &Result<Answer, Refusal>) -> bool
     matches!(answer, Ok(Answer::Started(_)))
 }
 
-/// Whether something was opened.
+/// Whether the answer tells that something was opened, which the summary counts.
 #[tactic(auto, unfolding(crate::specs::Printed::is_opened))]
 fn is_opened(answer: &Result<Answer, Refusal>) -> bool
     ensures { result ≡ spec.is_opened answer.now }
@@ -24,7 +24,7 @@ fn is_opened(answer: &Result<Answer, Refusal>) -> bool
     matches!(answer, Ok(Answer::Opened(_)))
 }
 
-/// Whether something was shown.
+/// Whether the answer shows an instance, which the summary counts.
 #[tactic(auto, unfolding(crate::specs::Printed::is_shown))]
 fn is_shown(answer: &Result<Answer, Refusal>) -> bool
     ensures { result ≡ spec.is_shown answer.now }

@@ -26,34 +26,34 @@ abbrev pub registry_word : Registry → List ℕ
 registry_word Runners = codes "runners"
 registry_word Debug = codes "debug"
 
--- the fields of a registration
+-- the fields that an item of `runners` or of `debug` may have
 abbrev pub registration_fields : Registry → List (List ℕ)
 registration_fields Runners = codes "runner" ∷ codes "from" ∷ codes "as" ∷ []
 registration_fields Debug = codes "protocol" ∷ codes "from" ∷ codes "as" ∷ []
 
--- the name of a runner, of which an item has one
+-- the name of the runner that an item of `runners` registers; it has exactly one
 unfoldable pub runner_names_at : ItemPlace → Data → ReadResult (List (List ℕ))
 runner_names_at at d = do
   name ← name_at at (codes "runner") d
   Ok (name ∷ [])
 
--- the names of a registration: one runner, or one or more protocols
+-- the names that an item registers: one runner, or one or more debug protocols
 abbrev pub registration_names_at : Registry → ItemPlace → Data → ReadResult (List (List ℕ))
 registration_names_at Runners at d = runner_names_at at d
 registration_names_at Debug at d = item_names_at kind.Protocol at d
 
--- the registration of a name; its target name is by default the name itself
+-- the registration of one name; the name at its target is by default the same
 abbrev pub registration : Origin → Option (List ℕ) → List ℕ → Registration
 registration from target name = record { name = name; from = from; target = unwrap_or target name }
 
--- a registration for each of these names
+-- a registration for each of these names, by the other fields of the item
 unfoldable pub registered_at : ItemPlace → List (List ℕ) → Data → ReadResult (List Registration)
 registered_at at names d = do
   from ← static_from_at at d
   target ← as_at at names d
   Ok (map (registration from target) names)
 
--- an item of `runners` or of `debug`: a registration for each name
+-- what an item of `runners` or of `debug` is read as: a registration for each name
 unfoldable pub registration_at : Registry → ItemPlace → Data → ReadResult (List Registration)
 registration_at which at d = do
   members ← object_at at d
@@ -61,7 +61,8 @@ registration_at which at d = do
   names ← registration_names_at which at d
   registered_at at names d
 
--- the registrations of the items, one item after another; all stand at the place of the environment
+-- what all items of `runners` or `debug` are read as, one after another; a fault is told at the place
+-- of the environment
 abbrev pub registrations_in_at : Registry → ItemPlace → Items → ReadResult (List Registration)
 registrations_in_at which at no_items = Ok []
 registrations_in_at which at (item d ds) = do
@@ -69,17 +70,17 @@ registrations_in_at which at (item d ds) = do
   others ← registrations_in_at which at ds
   Ok (first ++ others)
 
--- the fault, told with another field
+-- the fault of an item in a list, told of the field that has the list
 abbrev pub in_field : List ℕ → ReadFault → ReadFault
 in_field field (Bad number section index inner) = Bad number section index field
 in_field field Memory = Memory
 
--- a fault inside a field that lists items is told with that field
+-- what is read of a field that lists items; a fault in one of them is told with that field's name
 abbrev pub inside : {A : Type 0} → List ℕ → ReadResult A → ReadResult A
 inside field (Ok x) = Ok x
 inside field (Err fault) = Err (in_field field fault)
 
--- the registrations that a value lists
+-- the registrations that the value of `runners` or `debug` lists
 unfoldable pub registry_in_at : Registry → ItemPlace → Data → ReadResult (List Registration)
 registry_in_at which at d = do
   items ← ok_or (as_array d) (bad at wrong_type (registry_word which))
@@ -91,13 +92,13 @@ registry_at which at d = or_default (get (registry_word which) d) [] (registry_i
 
 -- ---- environments
 
--- the fields of an environment; the last two are read over
+-- the fields that an environment may have; the last two are allowed and not looked at
 abbrev pub environment_fields : List (List ℕ)
 environment_fields =
     codes "name" ∷ codes "extends" ∷ codes "runners" ∷ codes "debug" ∷ codes "resolvers"
     ∷ codes "__stop_timeout_ms" ∷ []
 
--- the row of an environment, whose fields are known
+-- the environment that an item is read as, once its fields are known ones
 unfoldable pub environment_row_at : ItemPlace → Data → ReadResult (List Environment)
 environment_row_at at d = do
   name ← name_at at (codes "name") d
@@ -106,7 +107,7 @@ environment_row_at at d = do
   debug ← registry_at Debug at d
   Ok (record { name = name; extends = extends; runners = runners; debug = debug } ∷ [])
 
--- an item of `environments`: one row
+-- what an item of `environments` is read as
 unfoldable pub environment_item_at : ItemPlace → Data → ReadResult (List Environment)
 environment_item_at at d = do
   members ← object_at at d

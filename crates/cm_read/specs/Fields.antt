@@ -1,6 +1,6 @@
 -- Promised.
--- What the fields of an item are read as.
--- ---- whether a field is there
+-- How the fields of an item are read. The value of a field is a `Data`, a JSON value; `at` is the
+-- item's place, which faults tell, and `key` the field's name.
 use Rattle.std.specs.Prelude.{ℕ, List, [], ◌∷◌, length, Option, Some, None, ok_or}
 use Rattle.std.specs.Prelude.{Result, Ok, Err, ◌==◌, if◌then◌else◌}
 use Rattle.std.specs.Str.{bytes_eq}
@@ -19,54 +19,56 @@ use Rattle.cm_read.specs.Numbers.{unknown_word}
 use Rattle.cm_names.specs.Steps.{◌>>=◌}
 use Rattle.cm_read.specs.Reading.{ReadResult, bad}
 
+-- ---- whether a field is there
+
 -- the value of a field that has to be there
 abbrev pub needed_at : ItemPlace → List ℕ → Data → ReadResult Data
 needed_at at key d = ok_or (get key d) (bad at missing key)
 
--- what a field gives, or its default where it is missing
+-- what a field is read as, or its default where it isn't there
 abbrev pub or_default : {A : Type 0} → Option Data → A → (Data → ReadResult A) → ReadResult A
 or_default None default read = Ok default
 or_default (Some d) default read = read d
 
--- what a field gives, if it is there
+-- what a field is read as, if it is there
 abbrev pub if_there : {A : Type 0} → Option Data → (Data → ReadResult A) → ReadResult (Option A)
 if_there None read = Ok None
 if_there (Some d) read = read d >>= λ x. Ok (Some x)
 
 -- ---- one text
 
--- the text that a value is
+-- the text of a field whose value has to be a text
 abbrev pub text_at : ItemPlace → List ℕ → Data → ReadResult (List ℕ)
 text_at at key d = ok_or (as_str d) (bad at wrong_type key)
 
--- a value, where the text has no fault
+-- the value x, or the fault e where a check found some fault
 abbrev pub unless_fault : {A F : Type 0} → Option F → ReadFault → A → ReadResult A
 unless_fault None e x = Ok x
 unless_fault (Some f) e x = Err e
 
--- the name that a text is
+-- the text, where it is a name
 abbrev pub name_from : ItemPlace → List ℕ → List ℕ → ReadResult (List ℕ)
 name_from at key text = unless_fault (name_fault text) (bad at bad_name key) text
 
--- the path that a text is
+-- the text, where it is a path
 abbrev pub path_from : ItemPlace → List ℕ → List ℕ → ReadResult (List ℕ)
 path_from at key text = unless_fault (path_fault text) (bad at bad_path key) text
 
--- the subdirectory that a text is
+-- the text, where it is a subdirectory
 abbrev pub subdir_from : ItemPlace → List ℕ → List ℕ → ReadResult (List ℕ)
 subdir_from at key text = unless_fault (subdir_fault text) (bad at bad_path key) text
 
--- the URL text that a text is
+-- the text, where it may be a URL
 abbrev pub url_from : ItemPlace → List ℕ → List ℕ → ReadResult (List ℕ)
 url_from at key text = if is_url_text text then Ok text else Err (bad at bad_name key)
 
--- what one of a field's listed words means
+-- what a field's value means, which has to be one of the words that are listed for it
 abbrev pub listed_at : {A : Type 0} → (List ℕ → Option A) → ItemPlace → List ℕ → Data → ReadResult A
 listed_at meaning at key d = do
   text ← text_at at key d
   ok_or (meaning text) (bad at unknown_word key)
 
--- the name that a value is
+-- the name that a field's value has to be
 unfoldable pub name_in_at : ItemPlace → List ℕ → Data → ReadResult (List ℕ)
 name_in_at at key d = do
   text ← text_at at key d
@@ -85,7 +87,7 @@ url_at at key d = do
   text ← text_at at key value
   url_from at key text
 
--- the path that a value is
+-- the path that a field's value has to be
 unfoldable pub path_in_at : ItemPlace → List ℕ → Data → ReadResult (List ℕ)
 path_in_at at key d = do
   text ← text_at at key d
@@ -97,7 +99,7 @@ path_at at key d = do
   value ← needed_at at key d
   path_in_at at key value
 
--- the subdirectory that a value is
+-- the subdirectory that a field's value has to be
 unfoldable pub subdir_in_at : ItemPlace → List ℕ → Data → ReadResult (List ℕ)
 subdir_in_at at key d = do
   text ← text_at at key d
@@ -109,7 +111,7 @@ subdir_at at key d = if_there (get key d) (subdir_in_at at key)
 
 -- ---- several texts
 
--- the texts that the values are
+-- the texts of a list, each item of which has to be a text
 abbrev pub texts_in_at : ItemPlace → List ℕ → Items → ReadResult (List (List ℕ))
 texts_in_at at key no_items = Ok []
 texts_in_at at key (item d ds) = do
@@ -117,7 +119,7 @@ texts_in_at at key (item d ds) = do
   others ← texts_in_at at key ds
   Ok (text ∷ others)
 
--- a text, or a list of one or more texts
+-- the texts of a field whose value is one text, or a list of one or more
 unfoldable pub texts_at : ItemPlace → List ℕ → Data → ReadResult (List (List ℕ))
 texts_at at key (array ds) = do
   texts ← texts_in_at at key ds
@@ -126,7 +128,7 @@ texts_at at key d = do
   text ← text_at at key d
   Ok (text ∷ [])
 
--- what the texts are read as, or the fault of the first one that has a fault
+-- what each text is read as, or the first fault
 abbrev pub each : {A : Type 0} → (List ℕ → ReadResult A) → List (List ℕ) → ReadResult (List A)
 each read [] = Ok []
 each read (text ∷ texts) = do
@@ -134,24 +136,24 @@ each read (text ∷ texts) = do
   others ← each read texts
   Ok (first ∷ others)
 
--- a name, or a list of one or more names
+-- the names of a field whose value is one name, or a list of one or more
 unfoldable pub names_at : ItemPlace → List ℕ → Data → ReadResult (List (List ℕ))
 names_at at key d = do
   texts ← texts_at at key d
   each (name_from at key) texts
 
--- what stands behind a `#` at the start
+-- what follows the `#` that a text begins with, if it does: the name in a reference such as `#logger`
 abbrev pub behind_mark : List ℕ → Option (List ℕ)
 behind_mark [] = None
 behind_mark (c ∷ cs) = if c == 35 then Some cs else None
 
--- the name that a reference names
+-- the name in a reference, which a `#` has to begin
 abbrev pub reference_from : ItemPlace → List ℕ → List ℕ → ReadResult (List ℕ)
 reference_from at key text = do
   name ← ok_or (behind_mark text) (bad at unknown_word key)
   name_from at key name
 
--- the names of a reference, or of a list of one or more references
+-- the names of a field whose value is one reference, or a list of one or more
 unfoldable pub references_at : ItemPlace → List ℕ → Data → ReadResult (List (List ℕ))
 references_at at key d = do
   texts ← texts_at at key d
@@ -159,12 +161,12 @@ references_at at key d = do
 
 -- ---- rights
 
--- the rights that words stand for
+-- the rights that a list of words was read as, or the fault of the field
 abbrev pub rights_from : ItemPlace → List ℕ → Result RightSet RightsFault → ReadResult RightSet
 rights_from at key (Ok rights) = Ok rights
 rights_from at key (Err e) = Err (bad at bad_rights key)
 
--- the rights that a list of words stands for
+-- the rights of a field whose value has to be a list of words of rights
 unfoldable pub rights_in_at : ItemPlace → List ℕ → Data → ReadResult RightSet
 rights_in_at at key d = do
   items ← ok_or (as_array d) (bad at wrong_type key)
@@ -183,17 +185,17 @@ rights_at at key d = do
 abbrev pub object_at : ItemPlace → Data → ReadResult Members
 object_at at d = ok_or (as_object d) (bad at wrong_type [])
 
--- the first key that isn't among the known ones; an object's keys stand in byte order
+-- the first key of an object that isn't among the known ones; keys are looked at in byte order
 abbrev pub unknown_in : List (List ℕ) → Members → Option (List ℕ)
 unknown_in known no_members = None
 unknown_in known (member k d ms) =
     if list_any (λ w. bytes_eq w k) known then unknown_in known ms else Some k
 
--- there is no unknown field
+-- the fault of an unknown field, where there is one
 abbrev pub no_unknown : ItemPlace → Option (List ℕ) → ReadResult (Unit {0})
 no_unknown at None = Ok tt
 no_unknown at (Some k) = Err (bad at unknown_field k)
 
--- the item has known fields alone
+-- the fault of the item's first unknown field, where it has one
 abbrev pub known_at : ItemPlace → List (List ℕ) → Members → ReadResult (Unit {0})
 known_at at known ms = no_unknown at (unknown_in known ms)

@@ -1,5 +1,5 @@
 -- Inside.
--- The keys that are known in an object of a manifest.
+-- The keys that an object of a manifest may have.
 use Rattle.std.specs.Prelude.{ℕ, List}
 use Rattle.cm_read.specs.declared.known.Object.{Object}
 use Rattle.cm_read.specs.declared.known.Object.TheVariants as object
@@ -8,7 +8,7 @@ use Rattle.cm_read.specs.Items.{child_fields, collection_fields, capability_fiel
 use Rattle.cm_read.specs.Items.{expose_fields}
 use Rattle.cm_read.specs.Environments.{registration_fields, environment_fields}
 
--- those of the manifest are its sections, and those of an item its fields
+-- the keys that are known in an object: the sections of the manifest, or the fields of an item
 abbrev pub keys_of : Object → List (List ℕ)
 keys_of object.Manifest = section_names
 keys_of object.Child = child_fields

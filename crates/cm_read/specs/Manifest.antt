@@ -23,17 +23,17 @@ use Rattle.cm_read.specs.Items.{usage_in, debug_use_in, storage_use_in, offer_at
 use Rattle.cm_read.specs.Items.{expose_at}
 use Rattle.cm_read.specs.Environments.{environment_item_at}
 
--- the sections of a manifest
+-- the sections that a manifest may have
 abbrev pub section_names : List (List ℕ)
 section_names =
     codes "program" ∷ codes "children" ∷ codes "collections" ∷ codes "capabilities" ∷ codes "use"
     ∷ codes "offer" ∷ codes "expose" ∷ codes "facets" ∷ codes "environments" ∷ []
 
--- a fault of the whole manifest
+-- a fault that is told of the whole manifest
 abbrev pub whole : ℕ → ReadFault
 whole number = bad (start section.Manifest) number []
 
--- the runner of a program, whose other members are read over
+-- the runner in `program`, whose other members aren't looked at
 unfoldable pub program_at : Data → ReadResult (List ℕ)
 program_at d = do
   members ← object_at (start section.Program) d
@@ -49,11 +49,12 @@ sections_at d = do
   members ← ok_or (as_object d) (whole not_object)
   known_at (start section.Manifest) section_names members
 
--- the rows of `children`, beside which the others are read
+-- the declared children, which are read first since offers and exposes may refer to them
 unfoldable pub children_at : Data → ReadResult (List Child)
 children_at d = section_at child_at section.Children (get (codes "children") d)
 
--- the rows of all sections that list them, in the order of the sections; `facets` is read over
+-- the rows of all sections, which are read in this order, so the first fault is told; `facets` isn't
+-- looked at
 unfoldable pub section_rows_at : Data → ReadResult SectionRows
 section_rows_at d = do
   children ← children_at d
@@ -73,7 +74,7 @@ section_rows_at d = do
     environments = environments;
   })
 
--- the declaration of a runner and these rows: a section's rows of each kind stand in a list of their own
+-- the declaration of this runner and these rows
 abbrev pub declared_by : Option (List ℕ) → SectionRows → Decl
 declared_by runner rows = record {
   runner = runner;
@@ -90,7 +91,7 @@ declared_by runner rows = record {
   storage_offers = filter_map storage_offer_in rows.offers;
 }
 
--- the declaration that a value is
+-- the declaration that a JSON value is read as
 unfoldable pub decl_at : Data → ReadResult Decl
 decl_at d = do
   known ← sections_at d
@@ -98,34 +99,35 @@ decl_at d = do
   rows ← section_rows_at d
   Ok (declared_by runner rows)
 
--- the declaration that a value is, where the text has one
+-- the declaration that a JSON text is read as, by its value, if it has one
 abbrev pub of_data : Option Data → ReadResult Decl
 of_data None = Err (whole not_json)
 of_data (Some d) = decl_at d
 
--- the declaration that a JSON text is
+-- the declaration that a JSON text is read as
 abbrev pub decl_of_json : List ℕ → ReadResult Decl
 decl_of_json text = of_data (json.read text)
 
--- the JSON text of a text in the relaxed spelling, where it has one
+-- the strict JSON of a text in the relaxed spelling, which allows comments and the like, or that it
+-- has none
 abbrev pub json_text : Result (List ℕ) TextFault → ReadResult (List ℕ)
 json_text (Ok json) = Ok json
 json_text (Err e) = Err (whole not_json)
 
--- the declaration that a text in the relaxed spelling is
+-- the declaration that a text in the relaxed spelling is read as
 abbrev pub decl_of_text : List ℕ → ReadResult Decl
 decl_of_text text = do
   json ← json_text (json_of text)
   decl_of_json json
 
--- the text that bytes are
+-- the text that the bytes of a manifest are, if they are within the limit and UTF-8
 abbrev pub text_of : List ℕ → ReadResult (List ℕ)
 text_of bytes =
     if nat_lt max_bytes (length bytes) then Err (whole too_large)
     else if is_utf8 bytes then Ok bytes
     else Err (whole not_utf8)
 
--- the declaration that bytes are, or their first fault
+-- the declaration that the bytes of a manifest are read as, or their first fault
 abbrev pub decl_of_bytes : List ℕ → ReadResult Decl
 decl_of_bytes bytes = do
   text ← text_of bytes

@@ -1,5 +1,5 @@
 -- Inside.
--- Parts of what is read, for the functions that read in steps.
+-- Parts of what is read of offers, exposes and declarations, for the functions that read in steps.
 use Rattle.std.specs.Prelude.{ℕ, List, ◌++◌, filter_map, codes, Ok, Option, Bool}
 use Rattle.serde_json.specs.Data.{Data}
 use Rattle.cm_names.specs.Rights.{RightSet}
@@ -26,7 +26,7 @@ use Rattle.cm_read.specs.Items.{storage_offer_in}
 
 -- ---- offers and exposes
 
--- what is asked of what is given
+-- the terms of an offer or an expose, of their parts
 abbrev pub asked_with : Option (List ℕ) → Option RightSet → Option (List ℕ) → Dependency → Availability
     → Bool → AskedTerms
 asked_with target rights subdir dependency availability unknown = record {
@@ -38,7 +38,8 @@ asked_with target rights subdir dependency availability unknown = record {
   unknown = unknown;
 }
 
--- what an item asks of what it gives by these names, with the dependency that is read so
+-- the terms of an offer or an expose: all of its fields but the names, the source and the targets; the
+-- dependency was read before
 unfoldable pub asked_at : ReadResult Dependency → ItemPlace → List (List ℕ) → Data → ReadResult AskedTerms
 asked_at dependency at names d = do
   target ← as_at at names d
@@ -49,14 +50,15 @@ asked_at dependency at names d = do
   unknown ← source_unknown_at at d
   Ok (asked_with target rights subdir dependency availability unknown)
 
--- where the dependency is what its reading gives, the result is what is asked with it
+-- what a function read as the terms is right wherever the dependency was read rightly
 abbrev pub GivesAsked : ReadResult Dependency → ItemPlace → List (List ℕ) → Data → ReadResult AskedTerms
     → Type 0
 GivesAsked dependency at names d result =
     (wanted : ReadResult Dependency) → GivesReading dependency wanted
     → GivesReading result (asked_at wanted at names d)
 
--- the terms of an item of that kind from that source, beside these declared children
+-- the terms of an item of this kind and source, where a source that may be missing is settled by the
+-- declared children
 abbrev pub terms_by : Kind → List Child → Origin → AskedTerms → Terms
 terms_by k children from asked = record {
   kind = k;
@@ -70,7 +72,7 @@ terms_by k children from asked = record {
 
 -- ---- declarations
 
--- the declaration with the rows of these sections at the ends of the lists of their kinds
+-- the declaration with these rows at the ends of its lists
 abbrev pub with_rows : Decl → List CapabilityRow → List UseRow → List OfferRow → Decl
 with_rows decl capabilities uses offers = record decl {
   capabilities = decl.capabilities ++ filter_map capability_in capabilities;

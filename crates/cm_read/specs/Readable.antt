@@ -1,6 +1,5 @@
 -- Promised.
--- Which declarations a manifest can have, and that these are read back from their text.
--- ---- values
+-- Which declarations some manifest has: they are exactly the readable ones.
 use Rattle.std.specs.Prelude.{◌≡◌, ◌≢◌, ℕ, ◌≤◌, ◌+◌, List, length, Bool, true, false, Option, Some, None}
 use Rattle.std.specs.Prelude.{IsTrue, All}
 use Rattle.cm_names.specs.Name.{IsName}
@@ -28,15 +27,18 @@ use Rattle.cm_decl.specs.declared.decl.Decl.{Decl}
 use Rattle.cm_read.specs.Numbers.{max_rows}
 use Rattle.cm_names.specs.Urls.{is_url_text}
 
--- some right
+-- ---- values
+
+-- rights, at least one of which a list of words has to name
 abbrev pub AreRights : RightSet → Type 0
 AreRights rights = rights ≢ no_rights
 
--- a subdirectory
+-- the text is a subdirectory: parts joined by slashes
 abbrev pub IsSubDir : List ℕ → Type 0
 IsSubDir t = IsTrue (is_subdir t)
 
--- an origin of a section that has parent and void where it is said; a child is in no collection
+-- a source that a section allows; whether it allows the parent and the void is said. A child is in no
+-- collection
 abbrev pub IsOriginRow : Bool → Bool → Origin → Type 0
 IsOriginRow parent void origin.Parent = IsTrue parent
 IsOriginRow parent void origin.Own = Unit {0}
@@ -58,17 +60,17 @@ IsStorageSource origin.Own = Unit {0}
 IsStorageSource origin.Void = Unit {0}
 IsStorageSource _ = ⊥
 
--- a fact of the value, if there is one
+-- P holds of the value, if there is one
 abbrev pub ForSomeOf : {A : Type 0} → Option A → (A → Type 0) → Type 0
 ForSomeOf None P = Unit {0}
 ForSomeOf (Some x) P = P x
 
--- a value that a directory may have, and a protocol has not
+-- a value that only a directory may have, and which holds P
 abbrev pub MayHave : {A : Type 0} → Kind → Option A → (A → Type 0) → Type 0
 MayHave kind.Protocol given P = given ≡ None
 MayHave kind.Directory given P = ForSomeOf given P
 
--- a value that a directory has, and a protocol has not
+-- a value that a directory has to have, and which holds P; a protocol has none
 abbrev pub MustHave : {A : Type 0} → Kind → Option A → (A → Type 0) → Type 0
 MustHave kind.Protocol given P = given ≡ None
 MustHave kind.Directory None P = ⊥
@@ -76,24 +78,24 @@ MustHave kind.Directory (Some x) P = P x
 
 -- ---- rows
 
--- a row of `children`
+-- a child that an item of `children` can be read as
 pub record IsChildRow (c : Child) : Type 0 where
   pub name : IsName c.name
   pub url : IsTrue (is_url_text c.url)
   pub environment : ForSomeOf c.environment IsName
 
--- a row of `collections`
+-- a collection that an item of `collections` can be read as
 pub record IsCollection (c : Collection) : Type 0 where
   pub name : IsName c.name
   pub environment : ForSomeOf c.environment IsName
 
--- a row of `capabilities`
+-- a capability that an item of `capabilities` can be read as
 pub record IsCapability (c : Capability) : Type 0 where
   pub name : IsName c.name
   pub path : IsTrue (is_path c.path)
   pub rights : MustHave c.kind c.rights AreRights
 
--- a row of `use`
+-- a use that an item of `use` can be read as
 pub record IsUsage (u : Usage) : Type 0 where
   pub name : IsName u.name
   pub from : IsOriginRow true false u.from
@@ -102,7 +104,7 @@ pub record IsUsage (u : Usage) : Type 0 where
   pub subdir : MayHave u.kind u.subdir IsSubDir
   pub availability : u.availability ≢ SameAsTarget
 
--- what a row of `offer` and one of `expose` have in common; an offer may come from the parent
+-- what an item of `offer` or `expose` can give; whether it may come from the parent is said
 pub record IsGiveRow (parent : Bool) (g : Give) : Type 0 where
   pub source_name : IsName g.source_name
   pub from : IsOriginRow parent true g.from
@@ -110,60 +112,60 @@ pub record IsGiveRow (parent : Bool) (g : Give) : Type 0 where
   pub rights : MayHave g.kind g.rights AreRights
   pub subdir : MayHave g.kind g.subdir IsSubDir
 
--- a row of `offer`
+-- an offer that an item of `offer` can be read as
 pub record IsOffer (o : Offer) : Type 0 where
   pub to : IsName o.to
   pub give : IsGiveRow true o.give
 
--- a row of `expose`
+-- an expose that an item of `expose` can be read as
 pub record IsExpose (g : Give) : Type 0 where
   pub give : IsGiveRow false g
   pub dependency : g.dependency ≡ Strong
 
--- a registration
+-- a registration that an item of `runners` or `debug` can be read as
 pub record IsRegistration (r : Registration) : Type 0 where
   pub name : IsName r.name
   pub from : IsStaticSource r.from
   pub target : IsName r.target
 
--- a row of `environments`
+-- an environment that an item of `environments` can be read as
 pub record IsEnvironment (e : Environment) : Type 0 where
   pub name : IsName e.name
   pub runners : All IsRegistration e.runners
   pub debug : All IsRegistration e.debug
 
--- a debug use
+-- a debug use that an item of `use` can be read as
 pub record IsDebugUse (u : DebugUse) : Type 0 where
   pub name : IsName u.name
   pub path : IsTrue (is_path u.path)
 
--- a storage
+-- a storage that an item of `capabilities` can be read as
 pub record IsStorage (s : Storage) : Type 0 where
   pub name : IsName s.name
   pub from : IsStaticSource s.from
   pub backing : IsName s.backing
   pub subdir : ForSomeOf s.subdir IsSubDir
 
--- a use of a storage
+-- a use of a storage that an item of `use` can be read as
 pub record IsStorageUse (u : StorageUse) : Type 0 where
   pub name : IsName u.name
   pub path : IsTrue (is_path u.path)
 
--- an offer of a storage
+-- an offer of a storage that an item of `offer` can be read as
 pub record IsStorageOffer (o : StorageOffer) : Type 0 where
   pub to : IsName o.to
   pub source_name : IsName o.source_name
   pub from : IsStorageSource o.from
   pub target_name : IsName o.target_name
 
--- a section of such rows, within the limit
+-- rows that a section can be read as, within the limit of rows
 pub record AreRows {A : Type 0} (IsRow : A → Type 0) (rows : List A) : Type 0 where
   pub limit : length rows ≤ max_rows
   pub each : All IsRow rows
 
 -- ---- declarations
 
--- the rows, words and limits that the tables of the manifest allow
+-- a declaration that some manifest is read as
 pub record IsReadable (d : Decl) : Type 0 where
   pub runner : ForSomeOf d.runner IsName
   pub children : AreRows IsChildRow d.children

@@ -1,6 +1,5 @@
 -- Inside.
--- Which declarations a manifest can have, and that these are read back from their text.
--- ---- values
+-- That reading and writing declarations fit, as statements.
 use Rattle.std.specs.Prelude.{◌≡◌, ℕ, List}
 use Rattle.std.specs.Prelude.{Ok, IsTrue}
 use Rattle.cm_decl.specs.declared.decl.Decl.{Decl}
@@ -13,15 +12,15 @@ use Rattle.cm_read.specs.Readable.{IsReadable}
 abbrev pub TextsAreReadBack : Type 0
 TextsAreReadBack = (d : Decl) → IsReadable d → decl_of_json (decl_text d) ≡ Ok d
 
--- what is read is readable
+-- every declaration that is read is readable
 abbrev pub WhatIsReadIsReadable : Type 0
 WhatIsReadIsReadable = (text : List ℕ) (d : Decl) → decl_of_json text ≡ Ok d → IsReadable d
 
--- so it is read back from its own text
+-- what is read is read back from the text that is written of it
 abbrev pub WhatIsReadIsReadBack : Type 0
 WhatIsReadIsReadBack =
     (text : List ℕ) (d : Decl) → decl_of_json text ≡ Ok d → decl_of_json (decl_text d) ≡ Ok d
 
--- and its rows come from where they may
+-- the sources and targets of a readable declaration are of the sorts that their sections allow
 abbrev pub ReadableIsWellFormed : Type 0
 ReadableIsWellFormed = (d : Decl) → IsReadable d → IsTrue (is_well_formed d)

@@ -1,5 +1,5 @@
 -- Promised.
--- Reading: a value, or the first fault; and what a function promises that reads.
+-- Reading gives a value or the first fault.
 use Rattle.std.specs.Prelude.{ℕ, List, Result}
 use Rattle.cm_decl.specs.declared.section.Section.{Section}
 use Rattle.cm_read.specs.declared.fault.ItemPlace.{ItemPlace}
@@ -10,11 +10,11 @@ use Rattle.cm_read.specs.declared.fault.ReadFault.TheVariants.{Bad}
 abbrev pub ReadResult : Type 0 → Type 0
 ReadResult A = Result A ReadFault
 
--- the fault of that number, at that field of the item at that place
+-- the fault with this number, told of that field of the item at that place
 abbrev pub bad : ItemPlace → ℕ → List ℕ → ReadFault
 bad at number field = Bad number at.section at.index field
 
--- the first item of a section, which is also the place of the section's own faults
+-- the place of a section's first item, at which faults of the section itself are told too
 abbrev pub start : Section → ItemPlace
 start s = record { section = s; index = 0 }
 

@@ -188,6 +188,7 @@ impl SectionItem for Environment {
 
     ghost reads = { λ _. environment_item_at };
 
+    /// An item of `environments` gives one row.
     #[tactic(auto, unfolding(crate::specs::Environments::environment_item_at))]
     fn read(
         alloc: Global,

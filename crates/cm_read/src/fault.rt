@@ -93,6 +93,7 @@ impl From<Memory> for ReadFault {
 
     ghost from_gives = { λ _ e. e ≡ OutOfMemory };
 
+    /// For `?` after a call that lacked memory.
     fn from(_: Memory) -> ReadFault {
         ReadFault::Memory
     }
@@ -104,6 +105,7 @@ impl From<AllocError> for ReadFault {
 
     ghost from_gives = { λ _ e. e ≡ OutOfMemory };
 
+    /// For `?` where an allocation fails: memory ran out.
     fn from(_: AllocError) -> ReadFault {
         ReadFault::Memory
     }
@@ -115,6 +117,7 @@ impl<T: Drop> From<AllocFailed<T>> for ReadFault {
 
     ghost from_gives = { λ _ e. e ≡ OutOfMemory };
 
+    /// For `?` where an allocation fails: memory ran out.
     fn from(_: AllocFailed<T>) -> ReadFault {
         ReadFault::Memory
     }
@@ -126,6 +129,7 @@ impl fmt::Display for ReadFault {
 
     ghost output = { λ fault. Some (fault_text fault) };
 
+    /// Writes `invalid NUMBER SECTION INDEX`, and the field where there is one.
     fn fmt<W: fmt::Write>(&self, f: &mut fmt::Formatter<W>) -> fmt::Result {
         match self {
             ReadFault::Bad {

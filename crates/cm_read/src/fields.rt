@@ -223,7 +223,7 @@ pub fn names_of(
     each_name(alloc, at, key, texts.as_slice())
 }
 
-/// What stands behind a `#` at the start.
+/// What stands after a `#` at the start.
 pub fn behind_mark(text: &str) -> Option<&str>
     ensures { option_map (λ s. s.now) result ≡ spec.behind_mark text.now }
 {

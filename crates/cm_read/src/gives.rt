@@ -37,7 +37,7 @@ fn as_in(alloc: Global, at: ItemPlace, names: &[Name], value: &Value) -> Result<
     Ok(name)
 }
 
-/// `as`, which may be missing.
+/// The name at the target, by `as`, if the item states one.
 #[tactic(auto, unfolding(crate::specs::Items::as_at))]
 pub fn as_of(
     alloc: Global,
@@ -54,7 +54,7 @@ pub fn as_of(
     Ok(Some(name))
 }
 
-/// `rights` that may be missing.
+/// The rights that an offer or an expose states, if it does.
 #[tactic(auto, unfolding(crate::specs::Items::given_rights_at))]
 fn given_rights_of(alloc: Global, at: ItemPlace, item: &Value) -> Result<Option<Rights>, ReadFault>
     ensures { GivesReading result (spec.given_rights_at at (view item.now)) }
@@ -139,7 +139,7 @@ fn offer_each(
     offer_rows(alloc, targets, gives.as_slice())
 }
 
-/// The same of terms and targets that are handed over.
+/// The rows of an offer by its terms and its targets, for each name one for each target.
 fn offer_by(
     alloc: Global,
     terms: Terms,
@@ -226,6 +226,8 @@ impl SectionItem for OfferRow {
 
     ghost reads = { offer_at };
 
+    /// An item of `offer` gives a row for each name and target. The declared children say which sources
+    /// may be missing.
     #[tactic(auto, unfolding(crate::specs::Items::offer_at))]
     fn read(
         alloc: Global,
@@ -279,6 +281,8 @@ impl SectionItem for Give {
 
     ghost reads = { expose_at };
 
+    /// An item of `expose` gives a row for each name. The declared children say which sources may be
+    /// missing.
     #[tactic(auto, unfolding(crate::specs::Items::expose_at))]
     fn read(
         alloc: Global,

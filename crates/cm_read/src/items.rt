@@ -52,6 +52,7 @@ impl SectionItem for Child {
 
     ghost reads = { λ _. child_at };
 
+    /// An item of `children` gives one row.
     #[tactic(auto, unfolding(crate::specs::Items::child_at))]
     fn read(
         alloc: Global,
@@ -95,6 +96,7 @@ impl SectionItem for Collection {
 
     ghost reads = { λ _. collection_at };
 
+    /// An item of `collections` gives one row.
     #[tactic(auto, unfolding(crate::specs::Items::collection_at))]
     fn read(
         alloc: Global,
@@ -108,7 +110,8 @@ impl SectionItem for Collection {
     }
 }
 
-/// What an item with exactly one of the three fields is about.
+/// What an item of a manifest is about: a protocol, a directory or a storage, by the one field of these
+/// three that it has.
 #[tactic(auto, unfolding(crate::specs::Items::sort_at))]
 pub fn sort_of(alloc: Global, at: ItemPlace, item: &Value) -> Result<Sort, ReadFault>
     ensures { GivesReading result (spec.sort_at at (view item.now)) }
@@ -238,6 +241,7 @@ impl SectionItem for CapabilityRow {
 
     ghost reads = { λ _. capability_at };
 
+    /// An item of `capabilities` gives a row for each name: a protocol, a directory or a storage.
     #[tactic(auto, unfolding(crate::specs::Items::capability_at))]
     fn read(
         alloc: Global,
@@ -332,6 +336,7 @@ impl SectionItem for UseRow {
 
     ghost reads = { λ _. use_at };
 
+    /// An item of `use` gives a row for each name: a protocol, a directory or a storage.
     #[tactic(auto, unfolding(crate::specs::Items::use_at))]
     fn read(
         alloc: Global,

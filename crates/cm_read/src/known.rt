@@ -123,7 +123,7 @@ fn expose_keys(kind: Kind) -> &'static [&'static str]
     }
 }
 
-/// The keys that are known in an object.
+/// The keys that may stand in an object of this sort. Others are faults.
 fn keys_of(object: Object) -> &'static [&'static str]
     ensures { map_now result.now ≡ spec.keys_of object }
 {

@@ -9,7 +9,7 @@ pub fn texts_are_read_back()
     ensures { TextsAreReadBack }
 {}
 
-/// What is read is readable.
+/// Law: every declaration that is read is readable, so its text is read back.
 #[tactic(auto, using(crate::proofs::reading::DeclRead::what_is_read_is_readable_lem))]
 pub fn what_is_read_is_readable()
     ensures { WhatIsReadIsReadable }

@@ -27,7 +27,7 @@ use std::alloc::Global;
 /// The most bytes of a manifest.
 const MAX_BYTES: usize = 1_048_576;
 
-/// The runner of a program.
+/// The runner that `program` names; its other members aren't looked at.
 #[tactic(auto, unfolding(crate::specs::Manifest::program_at))]
 fn program_in(alloc: Global, value: &Value) -> Result<Name, ReadFault>
     ensures { GivesReading result (spec.program_at (view value.now)) }
@@ -59,7 +59,7 @@ fn check_sections(alloc: Global, value: &Value) -> Result<(), ReadFault>
     check_keys(alloc, start(Section::Manifest), Object::Manifest, members)
 }
 
-/// The rows of `children`.
+/// The declared children, which are read before all other sections.
 #[tactic(auto, unfolding(crate::specs::Manifest::children_at))]
 fn children_of(alloc: Global, value: &Value) -> Result<List<Child>, ReadFault>
     ensures { GivesReading result (spec.children_at (view value.now)) }
@@ -197,7 +197,7 @@ pub fn read_decl_text(alloc: Global, text: &str) -> Result<Decl, ReadFault>
     }
 }
 
-/// The text that bytes are.
+/// The text that the bytes of a manifest are, within the limit and in UTF-8.
 #[tactic(auto, using(crate::proofs::TextLemmas::utf8_test, crate::proofs::TextLemmas::utf8_test_false,))]
 fn text_of(alloc: Global, bytes: &[u8]) -> Result<&str, ReadFault>
     ensures text { GivesBy (λ s. s.now) result (spec.text_of bytes.now) }

@@ -90,7 +90,7 @@ pub struct SectionRows {
     pub environments: List<Environment>,
 }
 
-/// The list of one row.
+/// A list of this one row. The fault is `Memory`, where memory runs out.
 pub fn one_row<T: Drop>(alloc: Global, row: T) -> Result<List<T>, ReadFault>
     ensures { GivesReading result (Ok (row ∷ [])) }
 {
@@ -121,7 +121,7 @@ fn protocol_row(alloc: Global, path: &Option<CapPath>, name: &Name) -> Result<Ca
     })
 }
 
-/// A row for each name.
+/// The capabilities of these protocols, one for each name.
 pub fn protocol_rows(
     alloc: Global,
     path: &Option<CapPath>,
@@ -198,7 +198,7 @@ fn protocol_use_row(
     }
 }
 
-/// A row for each name.
+/// The uses of these protocols, one for each name.
 fn protocol_use_rows(
     alloc: Global,
     from: &UseSource,
@@ -218,7 +218,7 @@ fn protocol_use_rows(
     Ok(rows)
 }
 
-/// The same of a source and a path that are handed over.
+/// The uses of these protocols from this source and at this path, one for each name.
 pub fn uses_from(
     alloc: Global,
     from: UseSource,
@@ -279,7 +279,7 @@ pub struct AskedTerms {
     pub unknown: bool,
 }
 
-/// The row of a name.
+/// What an offer or an expose with these terms gives under one name.
 fn give_row(terms: &Terms, name: &Name) -> Result<Give, Memory>
     ensures { IfOk result (λ row. row ≡ spec.give_row terms.now name.now) }
 {
@@ -297,7 +297,7 @@ fn give_row(terms: &Terms, name: &Name) -> Result<Give, Memory>
     })
 }
 
-/// A row for each name.
+/// What an offer or an expose with these terms gives, a row for each name.
 pub fn give_rows(alloc: Global, terms: &Terms, names: &[Name]) -> Result<List<Give>, Memory>
     ensures { IfOk result (λ rows. rows ≡ map (spec.give_row terms.now) names.now) }
 {
@@ -308,7 +308,7 @@ pub fn give_rows(alloc: Global, terms: &Terms, names: &[Name]) -> Result<List<Gi
     Ok(rows)
 }
 
-/// The row of a target.
+/// The offer of this to one target.
 fn offer_row(give: &Give, to: &Name) -> Result<Offer, Memory>
     ensures { IfOk result (λ row. row ≡ spec.offer_row give.now to.now) }
 {
@@ -393,7 +393,7 @@ fn storage_offer_rows(
     Ok(rows)
 }
 
-/// The same of a source and a target name that are handed over.
+/// The offers of these storages from this source under this target name, for each one for each target.
 pub fn storage_offers_from(
     alloc: Global,
     from: Origin,
@@ -407,7 +407,7 @@ pub fn storage_offers_from(
     storage_offer_rows(alloc, &from, &target, targets.as_slice(), names)
 }
 
-/// The registration of a name.
+/// The registration of one name.
 fn registration_row(
     from: &Origin,
     target: &Option<Name>,
@@ -438,7 +438,7 @@ fn registration_rows(
     Ok(rows)
 }
 
-/// The same of a source and a target name that are handed over.
+/// The registrations of these names from this source under this target name, one for each.
 pub fn registrations_from(
     alloc: Global,
     from: Origin,

@@ -195,7 +195,7 @@ fn flag_of(
     listed(alloc, at, key, flag_named(off, on, text))
 }
 
-/// `startup`, by default `lazy`.
+/// Whether a child starts together with its parent: `startup`, by default `lazy`.
 #[tactic(auto, unfolding(crate::specs::Words::startup_at, crate::specs::Words::startup_named))]
 pub fn startup_of(alloc: Global, at: ItemPlace, item: &Value) -> Result<bool, ReadFault>
     ensures { GivesReading result (spec.startup_at at (view item.now)) }
@@ -213,7 +213,7 @@ pub fn durability_of(alloc: Global, at: ItemPlace, item: &Value) -> Result<Durab
     listed(alloc, at, "durability", durability_named(text))
 }
 
-/// `allowed_offers`, by default `static_only`.
+/// Whether a child may be created with offers of its own: `allowed_offers`, by default `static_only`.
 #[tactic(auto, unfolding(crate::specs::Words::allowed_offers_at, crate::specs::Words::offers_named))]
 pub fn allowed_offers_of(alloc: Global, at: ItemPlace, item: &Value) -> Result<bool, ReadFault>
     ensures { GivesReading result (spec.allowed_offers_at at (view item.now)) }
@@ -228,7 +228,7 @@ pub fn allowed_offers_of(alloc: Global, at: ItemPlace, item: &Value) -> Result<b
     )
 }
 
-/// `dependency`, by default `strong`.
+/// Whether the order of stops is bound: `dependency`, by default `strong`.
 #[tactic(auto, unfolding(crate::specs::Words::dependency_at))]
 pub fn dependency_of(alloc: Global, at: ItemPlace, item: &Value) -> Result<Dependency, ReadFault>
     ensures { GivesReading result (spec.dependency_at at (view item.now)) }
@@ -272,7 +272,7 @@ pub fn given_availability_of(
     listed(alloc, at, "availability", given_availability_named(text))
 }
 
-/// `source_availability`, by default `required`.
+/// Whether the source may be missing: `source_availability`, by default `required`.
 #[tactic(auto, unfolding(crate::specs::Words::source_unknown_at, crate::specs::Words::source_named))]
 pub fn source_unknown_of(alloc: Global, at: ItemPlace, item: &Value) -> Result<bool, ReadFault>
     ensures { GivesReading result (spec.source_unknown_at at (view item.now)) }
@@ -470,7 +470,7 @@ pub fn storage_use_from_of(alloc: Global, at: ItemPlace, item: &Value) -> Result
     parent_alone(alloc, at, item, "from")
 }
 
-/// `extends`, by default `none`.
+/// Whether an environment extends that of its component: `extends`, by default `none`.
 #[tactic(auto, unfolding(crate::specs::Words::extends_at, crate::specs::Words::extends_named))]
 pub fn extends_of(alloc: Global, at: ItemPlace, item: &Value) -> Result<bool, ReadFault>
     ensures { GivesReading result (spec.extends_at at (view item.now)) }
@@ -488,7 +488,7 @@ pub fn storage_id_of(alloc: Global, at: ItemPlace, item: &Value) -> Result<bool,
     listed(alloc, at, "storage_id", storage_id_named(text))
 }
 
-/// The name behind the `#` of a reference; a text without one is no name.
+/// The name after the `#` of a reference; a text without one is no name.
 fn environment_from(alloc: Global, at: ItemPlace, text: &str) -> Result<Name, ReadFault>
     ensures { GivesReading result (spec.environment_from at (fields.behind_mark text.now)) }
 {

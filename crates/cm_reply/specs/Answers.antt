@@ -1,6 +1,6 @@
 -- Promised.
--- How the answers to commands are written. Lines after the first begin with two spaces, and no
--- line feed stands behind the last.
+-- How the answers to commands are written. Lines after the first begin with two spaces, and no line
+-- feed comes after the last.
 use Rattle.std.specs.Prelude.{ℕ, List, [], ◌++◌, length, codes, decimal, not, Option, Some, None, Result, Ok}
 use Rattle.std.specs.Prelude.{Err}
 use Rattle.cm_names.specs.Child.{in_collection}
@@ -19,7 +19,7 @@ use Rattle.cm_reply.specs.Routes.{place_text, route_text}
 use Rattle.cm_reply.specs.States.{happening_text, incarnation_text, look_text, survey_text, kid_text}
 use Rattle.cm_reply.specs.Refusals.{refusal_text}
 
--- the instance that the command names
+-- the instance that a command is for, as it names it
 abbrev pub target_of : Command → Target
 target_of (command.Resolve target) = target
 target_of (command.Start target) = target
@@ -37,44 +37,44 @@ target_of (command.Survey target) = target
 target_of (command.Exited target) = target
 target_of (command.Events target from) = target
 
--- the child that the command creates
+-- the child that a command creates, with its collection; empty for all other commands
 abbrev pub child_of : Command → TextBytes
 child_of (command.Create parent coll name url gives) = in_collection (Some coll) name
 child_of _ = []
 
--- the collection whose children the command lists
+-- the collection whose children a command lists; empty for all other commands
 abbrev pub collection_of : Command → TextBytes
 collection_of (command.ListChildren target coll) = coll
 collection_of _ = []
 
--- a word, and the instance as the command names it
+-- a word, and after it the instance as the command names it
 abbrev pub of_target : TextBytes → Command → TextBytes
 of_target word c = word ++ (codes " " ++ target_text (target_of c))
 
--- the action that brought it about, or that it was so before
+-- the number of the action that brought something about, or `already` where it was so before
 abbrev pub done_by : Option ℕ → TextBytes
 done_by None = codes " already"
 done_by (Some action) = codes " action " ++ decimal action
 
--- the route of a use, or why it has none
+-- what `doctor` says of a use: its route, or why it has none
 abbrev pub found_text : Result Route Refusal → TextBytes
 found_text (Ok route) = codes "route " ++ route_text route
 found_text (Err refusal) = refusal_text refusal
 
--- what a check of all routes says of an instance without a declaration, or of one use
+-- what `doctor` says of one use, by its path; or that the instance isn't resolved
 abbrev pub checked_words : Option TextBytes → Result Route Refusal → TextBytes
 checked_words None found = codes "unresolved"
 checked_words (Some path) found = path ++ (codes " " ++ found_text found)
 
--- what a check of all routes says of one use, behind where the instance stands
+-- a line of `doctor`: the instance, and what is said of it or of one of its uses
 abbrev pub checked_text : Checked → TextBytes
 checked_text c = moniker_text c.moniker ++ (codes " " ++ checked_words c.path c.result)
 
--- how many items there are, and each on a line of its own
+-- a space, how many items there are, and each item on a line of its own
 abbrev pub counted : {A : Type 0} → (A → TextBytes) → List A → TextBytes
 counted text items = codes " " ++ (decimal (length items) ++ further_lines text items)
 
--- the answer to that command
+-- the text of an answer to this command
 abbrev pub answer_text : Command → Answer → TextBytes
 answer_text c (answer.Resolved action) = of_target (codes "resolved") c ++ done_by action
 answer_text c (answer.Started action) = of_target (codes "started") c ++ done_by action
@@ -99,7 +99,7 @@ answer_text c (answer.Streamed next told) =
     ++ (codes " " ++ (decimal (length told) ++ (codes " next " ++ (decimal next
     ++ further_lines happening_text told))))
 
--- the answer to that command, or why it was refused
+-- the text that answers a command: its answer, or why it was refused
 abbrev pub reply_text : Command → Result Answer Refusal → TextBytes
 reply_text c (Ok answer) = answer_text c answer
 reply_text c (Err refusal) = refusal_text refusal

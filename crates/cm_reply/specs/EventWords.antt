@@ -1,5 +1,5 @@
 -- Inside.
--- The first word of an event, and what stands behind it.
+-- The first word of an event's text, and what follows it. The reader of a journal goes by the word.
 use Rattle.std.specs.Prelude.{◌≡◌, ℕ, List, ◌∷◌, ◌++◌, codes, decimal, Bool, Option, Some, None}
 use Rattle.std.specs.Prelude.{if◌then◌else◌}
 use Rattle.std.specs.Str.{bytes_eq}
@@ -16,7 +16,7 @@ use Rattle.cm_reply.specs.Events.{mark_word, finish_text, groups_text, event_tex
 use Rattle.cm_reply.specs.declared.event_words.EventWord.{EventWord}
 use Rattle.cm_reply.specs.declared.event_words.EventWord.TheVariants as word
 
--- the word
+-- the word of an event's text
 abbrev pub word_of : EventWord → TextBytes
 word_of word.Find = codes "find"
 word_of word.Begin = codes "begin"
@@ -36,7 +36,7 @@ word_of word.Exited = codes "exited"
 word_of word.Tail = codes "tail"
 word_of word.Reap = codes "reap"
 
--- the event of that word
+-- the kind of event whose text begins with this word, if there is one
 abbrev pub event_named : TextBytes → Option EventWord
 event_named t =
     if bytes_eq t (codes "find") then Some word.Find
@@ -58,7 +58,7 @@ event_named t =
     else if bytes_eq t (codes "reap") then Some word.Reap
     else None
 
--- what an event of that word tells of
+-- the data that an event of this kind tells after its word
 abbrev pub Told : EventWord → Type 0
 Told word.Find = Moniker
 Told word.Begin = ActKind × ℕ
@@ -78,7 +78,7 @@ Told word.Exited = ℕ
 Told word.Tail = ℕ × ℕ
 Told word.Reap = ℕ
 
--- the event
+-- the event of this kind with these data
 abbrev pub event_of : (v : EventWord) → Told v → Event
 event_of word.Find m = event.Find m
 event_of word.Begin x = event.Begin x.0 x.1
@@ -98,11 +98,11 @@ event_of word.Exited i = event.Exited i
 event_of word.Tail x = event.Tail x.0 x.1
 event_of word.Reap i = event.Reap i
 
--- a number, and a text behind a space
+-- a number, a space and a text
 abbrev pub numbered : ℕ → TextBytes → TextBytes
 numbered n t = decimal n ++ (codes " " ++ t)
 
--- what stands behind the word
+-- how these data are written after the word
 abbrev pub told_text : (v : EventWord) → Told v → TextBytes
 told_text word.Find m = moniker_text m
 told_text word.Begin x = act_word x.0 ++ (codes " " ++ decimal x.1)
@@ -123,12 +123,13 @@ told_text word.Exited i = decimal i
 told_text word.Tail x = numbered x.0 (decimal x.1)
 told_text word.Reap i = decimal i
 
--- the event is told by its first word and what stands behind it
+-- the event's text is its word, a space, and its data
 pub record IsTold (e : Event) : Type 0 where
   pub word : EventWord
   pub told : Told word
   pub event : event_of word told ≡ e
   pub text : event_text e ≡ word_of word ++ 32 ∷ told_text word told
 
+-- each event's text is its word, a space, and its data
 abbrev pub EachIsTold : Type 0
 EachIsTold = (e : Event) → IsTold e

@@ -1,5 +1,5 @@
 -- Promised.
--- How events are written.
+-- How events are written in a journal.
 use Rattle.std.specs.Prelude.{◌++◌, List, flat_map, codes, decimal, Bool, true, false}
 use Rattle.cm_names.specs.Moniker.{moniker_text}
 use Rattle.cm_decl.specs.declared.rows.Give.{Give}
@@ -12,16 +12,16 @@ use Rattle.cm_command.specs.Written.{spaced, give_words}
 use Rattle.cm_reply.specs.Lists.{TextBytes}
 use Rattle.cm_reply.specs.States.{act_word, outcome_text}
 
--- what is offered, as a command writes it, each word behind a space
+-- the offers that a new child is given, as the command `create` writes them, each word after a space
 abbrev pub groups_text : List Give → TextBytes
 groups_text gives = flat_map spaced (flat_map give_words gives)
 
--- what a mark is for
+-- what a mark is for: to destroy (true), or only to shut down
 abbrev pub mark_word : Bool → TextBytes
 mark_word true = codes "doomed"
 mark_word false = codes "closing"
 
--- what the beginner of an action reports
+-- how an action ended, as its beginner told it
 abbrev pub finish_text : Finish → TextBytes
 finish_text (finish.Resolved url decl) = codes "resolved " ++ (url ++ (codes " " ++ decl_text decl))
 finish_text (finish.Other outcome) = outcome_text outcome

@@ -34,24 +34,27 @@ use Rattle.cm_reply.specs.Journal.{entries_text, header_text, line}
 
 -- ---- values
 
--- where the instances stand
+-- the moniker of the root
 abbrev pub root : Moniker
 root = record { parts = [] }
 
--- a child that the root declares
+-- the moniker of a child that the root declares
 abbrev pub child : TextBytes → Moniker
 child name = record { parts = static_name name ∷ [] }
 
+-- the moniker of the instance that provides
 abbrev pub logger : Moniker
 logger = child (codes "logger")
 
+-- the moniker of the instance that uses
 abbrev pub client : Moniker
 client = child (codes "client")
 
+-- the moniker of an instance with a collection
 abbrev pub session : Moniker
 session = record { parts = static_name (codes "core") ∷ static_name (codes "session") ∷ [] }
 
--- a child in a collection of core/session
+-- the moniker of a child in that collection
 abbrev pub element : Moniker
 element = record {
   parts =
@@ -59,11 +62,11 @@ element = record {
       ∷ record { coll = Some (codes "elements"); name = codes "e1" } ∷ [];
 }
 
--- the path of a use
+-- the path at which the client uses the protocol
 abbrev pub log_sink : TextBytes
 log_sink = codes "/svc/fuchsia.logger.LogSink"
 
--- a hop; only its step and where its instance stands are written
+-- a hop of the route; only its step and its instance's moniker are ever written
 abbrev pub hop : StepKind → ℕ → Moniker → Hop
 hop step inc moniker = record {
   step = step;
@@ -100,7 +103,7 @@ directory = record {
 abbrev pub entry : Event → Reply → Entry
 entry event reply = record { caller = 0; event = event; reply = reply }
 
--- the reply to a begun action; of the work only the number is written
+-- the reply to a begun action; of its work only the number is ever written
 abbrev pub begun : ℕ → Reply
 begun action = reply.Begun (record {
   action = action;
@@ -112,11 +115,12 @@ begun action = reply.Begun (record {
   eager = [];
 })
 
--- an action that resolved an instance
+-- the entry by which an action ends in a declaration
 abbrev pub resolved : ℕ → TextBytes → Decl → Entry
 resolved action url decl = entry (End action (Resolved url decl)) (reply.Ended outcome.Resolved)
 
--- the root, the client and the provider are resolved on the way
+-- the entries that find the route in a new realm, for which the root, the client and the logger are
+-- resolved
 abbrev pub route_entries : Decl → Decl → Decl → List Entry
 route_entries at_root at_client at_logger =
     entry (Find client) (reply.Need 0)
@@ -132,7 +136,7 @@ route_entries at_root at_client at_logger =
     ∷ entry (Route 2 log_sink) (reply.Given route)
     ∷ []
 
--- their lines, where the declarations have these texts
+-- the journal's lines of these entries, where the declarations have these texts
 abbrev pub route_lines : TextBytes → TextBytes → TextBytes → List TextBytes
 route_lines at_root at_client at_logger =
     codes "1 0 find client => need 0"
@@ -160,7 +164,7 @@ PrintsEntries =
     → entries_text 1 (route_entries at_root at_client at_logger)
     ≡ flat_map line (route_lines (decl_text at_root) (decl_text at_client) (decl_text at_logger))
 
--- what a tree was made with
+-- what a realm with two builtins was made with
 abbrev pub frame : Frame
 frame = record {
   root = codes "fuchsia-boot:///#meta/root.cm";
@@ -170,7 +174,7 @@ frame = record {
   limits = record { rows = 65536; entries = 4194304 };
 }
 
--- the lines before the entries
+-- the lines of that realm's journal before the entries
 abbrev pub header_lines : List TextBytes
 header_lines =
     codes "journal"
@@ -183,39 +187,39 @@ header_lines =
 abbrev pub PrintsHeader : Type 0
 PrintsHeader = header_text frame ≡ flat_map line header_lines
 
--- a route, through four hops
+-- how a route of four hops is written
 abbrev pub PrintsRoute : Type 0
 PrintsRoute =
     reply_text (command.RouteOf (Named client) log_sink) (Ok (answer.Routed route))
     ≡ codes "route /svc/fuchsia.logger.LogSink at logger incarnation 1"
     ++ codes " through use client, offer ., expose logger, capability logger"
 
--- a directory is opened with rights
+-- how it is written that a directory was opened with rights
 abbrev pub PrintsDirectory : Type 0
 PrintsDirectory =
     reply_text (command.OpenExposed (Named logger) (codes "logs")) (Ok (answer.Opened directory)) ≡ codes
     "opened /data/logs at logger incarnation 1 rights connect,enumerate,get_attributes,read_bytes,traverse"
 
--- a stop by force
+-- how a stop by force is written
 abbrev pub PrintsForced : Type 0
 PrintsForced =
     reply_text (command.Stop (Named root)) (Ok (answer.Stopped (Some 7) true))
     ≡ codes "stopped . by-force action 7"
 
--- a child that was created
+-- how it is written that a child was created
 abbrev pub PrintsCreated : Type 0
 PrintsCreated =
     reply_text (command.Create (Named session) (codes "elements") (codes "e1") (codes "#meta/element.cm") [])
     (Ok (answer.Created 5)) ≡ codes "created core/session elements:e1 incarnation 5"
 
--- each child stands on a line of its own
+-- how the children of a collection are written, each on a line of its own
 abbrev pub PrintsChildren : Type 0
 PrintsChildren =
     reply_text (command.ListChildren (Named session) (codes "elements"))
     (Ok (answer.Children (record { name = codes "e1"; inc = 5 } ∷ [])))
     ≡ codes "children core/session elements 1\n  e1 incarnation 5"
 
--- an instance that is named by its incarnation, closing and about to stop
+-- how an instance is shown that is named by its incarnation and is about to stop
 abbrev pub PrintsLook : Type 0
 PrintsLook =
     reply_text (command.Show (Inc 5))
@@ -230,7 +234,7 @@ PrintsLook =
     })))
     ≡ codes "shown @5 incarnation 5 url #meta/e.cm resolved on closing pending stop"
 
--- an instance that is shut
+-- how an instance that is shut stands in a survey
 abbrev pub PrintsSurvey : Type 0
 PrintsSurvey =
     reply_text (command.Survey (Named session))
@@ -244,7 +248,7 @@ PrintsSurvey =
     } ∷ [])))
     ≡ codes "survey core/session 1\n  core/session/elements:e1 incarnation 5 unresolved off shut"
 
--- a use that is left out on purpose, and an instance that is not resolved
+-- how `doctor` writes a use that is left out on purpose, and an instance that isn't resolved
 abbrev pub PrintsDoctor : Type 0
 PrintsDoctor =
     reply_text (command.Doctor (Named root))
@@ -256,7 +260,7 @@ PrintsDoctor =
     ≡ codes "doctor . 2\n  client /svc/fuchsia.logger.LogSink refused 88 void at offer .\n"
     ++ codes "  core/session/elements:e1 unresolved"
 
--- what happened, one thing of each kind
+-- how `events` writes what happened, one thing of each kind
 abbrev pub PrintsStream : Type 0
 PrintsStream =
     reply_text (command.Events (Named root) 3)

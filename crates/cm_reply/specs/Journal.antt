@@ -11,27 +11,27 @@ use Rattle.cm_reply.specs.Lists.{TextBytes, when_some}
 use Rattle.cm_reply.specs.Events.{event_text}
 use Rattle.cm_reply.specs.Replies.{replied_text}
 
--- an entry: its number, its caller, its event and its reply
+-- an entry as a line of the journal: its number, its caller, its event and its reply
 abbrev pub entry_text : ℕ → Entry → TextBytes
 entry_text number e =
     decimal number ++ (codes " " ++ (decimal e.caller ++ (codes " " ++ (event_text e.event
     ++ (codes " => " ++ replied_text e.reply)))))
 
--- the rights of a directory, behind a space
+-- the rights of a builtin directory, after a space
 abbrev pub provided_rights : RightSet → TextBytes
 provided_rights rights = codes " " ++ text_of rights
 
--- a builtin capability; the path of a protocol isn't written, since its name says it
+-- a builtin, in words; the path of a protocol isn't written, since its name tells it
 abbrev pub builtin_words : Kind → Builtin → TextBytes
 builtin_words kind.Protocol b = codes "protocol " ++ b.name
 builtin_words kind.Directory b =
     codes "directory " ++ (b.name ++ (codes " " ++ (b.path ++ when_some provided_rights b.rights)))
 
--- the same behind its first word
+-- a builtin as a line of the journal's head
 abbrev pub builtin_text : Builtin → TextBytes
 builtin_text b = codes "builtin " ++ builtin_words b.kind b
 
--- the text as a line, which a line feed ends
+-- a text as a line, which a line feed ends
 abbrev pub line : TextBytes → TextBytes
 line text = text ++ codes "\n"
 
@@ -39,15 +39,15 @@ line text = text ++ codes "\n"
 abbrev pub builtin_line : Builtin → TextBytes
 builtin_line b = line (builtin_text b)
 
--- the lines before the entries
+-- the lines of a journal before its entries: the builtins and the URL of the root
 abbrev pub header_text : Frame → TextBytes
 header_text f = line (codes "journal") ++ (flat_map builtin_line f.builtins ++ line (codes "root " ++ f.root))
 
--- the lines of entries, the first of which has that number
+-- the lines of these entries, the first of which has that number
 abbrev pub entries_text : ℕ → List Entry → TextBytes
 entries_text number [] = []
 entries_text number (e ∷ es) = line (entry_text number e) ++ entries_text (number + 1) es
 
--- the journal of a tree that was made so and has these entries
+-- the journal of a realm that was made so and has these entries
 abbrev pub journal_text : Frame → List Entry → TextBytes
 journal_text f es = header_text f ++ entries_text 1 es

@@ -1,7 +1,7 @@
 -- Promised.
--- Which entries a journal can tell of: those whose names, monikers, paths, URLs, offers and declarations are
--- in their grammars, and whose numbers fit.
--- ---- events
+-- Of which entries a journal can tell: those whose names, monikers, paths, URLs, offers and
+-- declarations are in their grammars, and whose numbers fit. Such an entry is legible: its line can be
+-- read back.
 use Rattle.std.specs.Prelude.{◌≡◌, ◌≢◌, ◌<◌, ◌^◌, Some, None, All, IsTrue}
 use Rattle.cm_names.specs.Name.{IsName}
 use Rattle.cm_names.specs.Path.{is_path, service_path}
@@ -21,22 +21,25 @@ use Rattle.cm_world.specs.declared.frame.Builtin.{Builtin}
 use Rattle.cm_command.specs.Words.{IsUrlText}
 use Rattle.cm_command.specs.Written.{IsTarget, IsWritableGive}
 
--- the number of a fault has 8 bits, and its index 32
+-- ---- events
+
+-- a fault of a manifest whose number has 8 bits and whose index has 32
 pub record IsLegibleNote (note : FaultNote) : Type 0 where
   pub number : note.number < 2 ^ 8
   pub index : note.index < 2 ^ 32
 
--- what became of an action
+-- an outcome of an action that can be read back
 abbrev pub IsLegibleOutcome : Outcome → Type 0
 IsLegibleOutcome (outcome.Invalid note) = IsLegibleNote note
 IsLegibleOutcome _ = Unit {0}
 
--- what the beginner of an action reports: a URL with a declaration that can be read back, or an outcome
+-- an end of an action that can be read back: a URL with a declaration that some manifest has, or an
+-- outcome
 abbrev pub IsLegibleFinish : Finish → Type 0
 IsLegibleFinish (finish.Resolved url decl) = IsUrlText url × IsReadable decl
 IsLegibleFinish (finish.Other o) = IsLegibleOutcome o
 
--- an event whose numbers have 64 bits and whose texts are in their grammars
+-- an event that can be read back: its numbers have 64 bits, and its texts are in their grammars
 abbrev pub IsLegible : Event → Type 0
 IsLegible (event.Find m) = IsTarget (target.Named m)
 IsLegible (event.Begin kind i) = i < 2 ^ 64
@@ -59,13 +62,13 @@ IsLegible (event.Reap i) = i < 2 ^ 64
 
 -- ---- replies: in what is written of them no word is an arrow
 
--- a protocol stands at the path of its name, and a directory at a path, with some rights
+-- a builtin protocol has the path of its name; a builtin directory has a path and some rights
 abbrev pub IsLegibleAs : Kind → Builtin → Type 0
 IsLegibleAs kind.Protocol b = (b.path ≡ service_path b.name) × (b.rights ≡ None)
 IsLegibleAs kind.Directory b =
     IsTrue (is_path b.path) × ((r : RightSet) × (b.rights ≡ Some r) × (r ≢ no_rights))
 
--- a builtin capability whose line says all of it
+-- a builtin whose line says all of it
 pub record IsLegibleBuiltin (b : Builtin) : Type 0 where
   pub name : IsName b.name
   pub stands : IsLegibleAs b.kind b

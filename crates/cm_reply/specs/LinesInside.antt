@@ -1,5 +1,5 @@
 -- Inside.
--- The lines of a journal, read.
+-- That the lines of a journal are read back, and in one way only.
 use Rattle.std.specs.Prelude.{◌≡◌, ℕ, ◌<◌, ◌≤◌, ◌^◌, ◌++◌, length}
 use Rattle.cm_world.specs.declared.event.Event.{Event}
 use Rattle.cm_world.specs.declared.reply.Entry.{Entry}
@@ -9,7 +9,7 @@ use Rattle.cm_reply.specs.Journal.{entry_text}
 use Rattle.cm_reply.specs.LegibleInside.{IsLegibleEntry}
 use Rattle.cm_reply.specs.Lines.{arrow, IsEntryLine}
 
--- the text is a prefix, an arrow and a rest, and no arrow begins further behind
+-- the text is a prefix, an arrow and a rest, and it has no later arrow
 pub record IsCutAtLast (t prefix rest : TextBytes) : Type 0 where
   pub whole : t ≡ prefix ++ (arrow ++ rest)
   pub last : (a r : TextBytes) → t ≡ a ++ (arrow ++ r) → length a ≤ length prefix
@@ -26,7 +26,7 @@ EntriesAreReadBack =
     (number : ℕ) (e : Entry) → number < 2 ^ 64 → IsLegibleEntry e
     → IsEntryLine (entry_text number e) number e.caller e.event (replied_text e.reply)
 
--- two readings of a line are one
+-- two readings of a line are the same
 pub record AreSame (n c : ℕ) (e : Event) (r : TextBytes) (m d : ℕ) (f : Event) (s : TextBytes) : Type 0 where
   pub numbers : n ≡ m
   pub callers : c ≡ d

@@ -1,16 +1,16 @@
 -- Inside.
--- Texts of lists, and of what may be missing.
+-- What writers of lists promise, and the text of a moniker.
 use Rattle.std.specs.Prelude.{◌≡◌, List, [], ◌∷◌, ◌++◌, codes}
 use Rattle.std.specs.Prelude.{String, string_bytes}
 use Rattle.cm_names.specs.declared.child.ChildName.{ChildName}
 use Rattle.cm_names.specs.Child.{child_text}
 use Rattle.cm_reply.specs.Lists.{TextBytes, each_behind}
 
--- a string has got that text behind what it had
+-- the string has grown by that text
 abbrev pub GainsText : {Z : Type 0} → String Z → String Z → TextBytes → Type 0
 GainsText old new text = string_bytes new ≡ string_bytes old ++ text
 
--- names of children with slashes between them, or a dot for none
+-- a moniker's names with slashes between them; a dot where it has none
 abbrev pub parts_text : List ChildName → TextBytes
 parts_text [] = codes "."
 parts_text (part ∷ parts) = child_text part ++ each_behind (codes "/") child_text parts

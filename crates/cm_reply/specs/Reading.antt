@@ -35,17 +35,17 @@ use Rattle.cm_reply.specs.declared.reading.Asked.{Asked}
 abbrev pub IsOr : {A : Type 0} → Result A EntryFault → A → Type 0
 IsOr result a = MatchResult result (λ x. x ≡ a) (λ e. e ≡ Memory)
 
--- the fault of a line whose word has that fault
+-- the fault of a journal's line one word of which has this fault
 abbrev pub fault_of : WordFault → EntryFault
 fault_of (word_fault.Bad n) = NotAnEntry
 fault_of word_fault.Memory = Memory
 
--- the fault of a line whose declaration has that fault
+-- the fault of a journal's line the declaration of which has this fault
 abbrev pub decl_fault : ReadFault → EntryFault
 decl_fault (read_fault.Bad number section index field) = NotAnEntry
 decl_fault read_fault.Memory = Memory
 
--- the outcome of that word; one that has a fault with it has none
+-- the outcome of this word; one that tells a manifest's fault isn't a single word
 abbrev pub outcome_named : TextBytes → Option Outcome
 outcome_named t =
     if bytes_eq t (codes "resolved") then Some outcome.Resolved
@@ -60,18 +60,18 @@ outcome_named t =
     else if bytes_eq t (codes "no-memory") then Some outcome.NoMemory
     else None
 
--- an outcome that is one word
+-- the outcome is written as a single word
 abbrev pub IsPlain : Outcome → Type 0
 IsPlain (outcome.Invalid note) = ⊥
 IsPlain _ = Unit {0}
 
--- the fault of a manifest behind its word `invalid`
+-- a manifest's fault, as it is written after the word `invalid`
 abbrev pub note_words : FaultNote → TextBytes
 note_words note =
     decimal note.number
     ++ (codes " " ++ (section_word note.section ++ (codes " " ++ (decimal note.index ++ []))))
 
--- the section of that word
+-- the section of a manifest of this word, if there is one
 abbrev pub section_named : TextBytes → Option Section
 section_named t =
     if bytes_eq t (codes "manifest") then Some section.Manifest
@@ -88,12 +88,12 @@ section_named t =
 
 -- ---- events
 
--- whatever legible event of that word has the text behind it, it is found
+-- the reader of this kind of event finds every legible event whose data are written so
 abbrev pub FindsEvent : EventWord → TextBytes → Result Event EntryFault → Type 0
 FindsEvent v t result = (x : Told v) → IsLegible (event_of v x) → t ≡ told_text v x
     → IsOr result (event_of v x)
 
--- the event creates a child of the parent, which is told by its number
+-- the event creates a child as the command `create` would, whose parent is named by its incarnation
 pub record IsCreatedIn (parent : Target) (coll name url : TextBytes) (gives : List Give)
     (e : Event) : Type 0 where
   pub inc : ℕ
@@ -102,21 +102,21 @@ pub record IsCreatedIn (parent : Target) (coll name url : TextBytes) (gives : Li
 
 -- ---- what stands before the arrow
 
--- a number, a caller and an event that a line can tell of
+-- the number, the caller and the event are such that a journal can tell them
 pub record IsAskable (a : Asked) : Type 0 where
   pub of_64_bits : a.number < 2 ^ 64
   pub of_32_bits : a.caller < 2 ^ 32
   pub legible : IsLegible a.event
 
--- how they are written
+-- how a number, a caller and an event stand before the arrow of a line
 abbrev pub text_of_asked : Asked → TextBytes
 text_of_asked a = asked_text a.number a.caller a.event
 
--- whatever such three have the text, they are found
+-- the reader finds a number, caller and event that are written so
 abbrev pub FindsAsked : TextBytes → Result Asked EntryFault → Type 0
 FindsAsked t result = (a : Asked) → IsAskable a → t ≡ text_of_asked a → IsOr result a
 
--- the three that have the text, or that there are none
+-- the reader found the number, caller and event that are written so, or rightly that there are none
 abbrev pub IsAsked : TextBytes → Result Asked EntryFault → Type 0
 IsAsked t result =
     MatchResult result (λ a. IsAskable a × (t ≡ text_of_asked a))
@@ -124,12 +124,12 @@ IsAsked t result =
 
 -- ---- lines
 
--- the line that says these four
+-- these four as one line of a journal
 abbrev pub line_of : ℕ → ℕ → Event → TextBytes → JournalLine
 line_of number caller event reply =
     record { number = number; caller = caller; event = event; reply = reply }
 
--- whatever entry the line tells of, it is found
+-- the reader finds the entry that this line tells of
 abbrev pub FindsEntry : TextBytes → Result JournalLine EntryFault → Type 0
 FindsEntry t result =
     (number caller : ℕ) (event : Event) (reply : TextBytes) → IsEntryLine t number caller event reply

@@ -1,5 +1,5 @@
 -- Promised.
--- How refusals are written.
+-- How refusals of commands are written.
 use Rattle.std.specs.Prelude.{◌++◌, codes, decimal}
 use Rattle.cm_names.specs.Moniker.{moniker_text}
 use Rattle.cm_decl.specs.Words.{node_text}
@@ -9,7 +9,8 @@ use Rattle.cm_reply.specs.Lists.{TextBytes, each_behind}
 use Rattle.cm_reply.specs.Routes.{failure_text, void_text}
 use Rattle.cm_reply.specs.States.{incarnation_text, outcome_text}
 
--- a refusal behind its first word: its number, its word and what belongs to it; lack of memory has no number
+-- a refusal after the word `refused`: its number, its word and what belongs to it; lack of memory has
+-- no number
 abbrev pub refusal_words : Refusal → TextBytes
 refusal_words refusal.CollectionNotFound = codes "60 collection-not-found"
 refusal_words (refusal.AlreadyExists inc) = codes "61 already-exists" ++ incarnation_text inc
@@ -35,6 +36,6 @@ refusal_words (refusal.VoidSource hop) = codes "88 " ++ void_text hop
 refusal_words (refusal.SourceShut inc) = codes "89 source-shut" ++ incarnation_text inc
 refusal_words refusal.Memory = codes "want-of-memory"
 
--- why a command was refused
+-- the text that tells why a command was refused
 abbrev pub refusal_text : Refusal → TextBytes
 refusal_text x = codes "refused " ++ refusal_words x

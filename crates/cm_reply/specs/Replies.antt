@@ -1,5 +1,5 @@
 -- Promised.
--- How the replies to events are written.
+-- How the replies to events are written in a journal.
 use Rattle.std.specs.Prelude.{[], ◌++◌, length, codes, decimal}
 use Rattle.cm_names.specs.Moniker.{moniker_text}
 use Rattle.cm_decl.specs.Words.{node_text}
@@ -9,8 +9,8 @@ use Rattle.cm_reply.specs.Lists.{TextBytes, each_behind, bracketed}
 use Rattle.cm_reply.specs.Routes.{route_text, failure_text, void_text}
 use Rattle.cm_reply.specs.States.{outcome_text, look_text, survey_text, kid_text}
 
--- a reply that tells of routes, of lists and looks, of programs that have ended, or of what is left
--- to be removed
+-- a reply that tells of routes, of lists and looks, of programs that have ended, or of what is left to
+-- be removed
 abbrev pub other_text : Reply → TextBytes
 other_text reply.NoSuchUse = codes "no-such-use"
 other_text reply.ClientOff = codes "client-off"
@@ -28,8 +28,7 @@ other_text (reply.Tailed count) = codes "tailed " ++ decimal count
 other_text (reply.Reaping incs) = codes "reaping" ++ each_behind (codes " ") decimal incs
 other_text _ = []
 
--- a reply: one that finds instances or tells of actions, creations, marks and removals as
--- follows, every other as above
+-- a reply as a journal's line ends with it
 abbrev pub replied_text : Reply → TextBytes
 replied_text (reply.Found inc) = codes "found " ++ decimal inc
 replied_text (reply.Need inc) = codes "need " ++ decimal inc

@@ -13,7 +13,7 @@ use Rattle.cm_world.specs.declared.route.Why.{Why}
 use Rattle.cm_world.specs.declared.route.Why.TheVariants as why
 use Rattle.cm_reply.specs.Lists.{TextBytes, joined_by, when_some}
 
--- the word for a hop
+-- the word for a hop, by its kind
 abbrev pub step_word : StepKind → TextBytes
 step_word step.UseHop = codes "use"
 step_word step.OfferHop = codes "offer"
@@ -22,7 +22,7 @@ step_word step.CapabilityHop = codes "capability"
 step_word step.FrameworkHop = codes "framework"
 step_word step.BuiltinHop = codes "builtin"
 
--- a hop: its word, and where its instance stands
+-- a hop: its word, and the moniker of its instance
 abbrev pub hop_text : Hop → TextBytes
 hop_text h = step_word h.step ++ (codes " " ++ moniker_text h.moniker)
 
@@ -35,13 +35,13 @@ why_word why.NoBuiltin = codes "no-builtin"
 why_word (why.AvailabilityTooWeak asked given) = codes "availability-too-weak"
 why_word (why.RightsTooWeak asked given) = codes "rights-too-weak"
 
--- who provides a capability
+-- who provides a capability, as routes and places tell it
 abbrev pub source_text : Provider → TextBytes
 source_text (provider.Instance inc moniker) = moniker_text moniker ++ (codes " incarnation " ++ decimal inc)
 source_text provider.Framework = codes "framework"
 source_text provider.Builtin = codes "builtin"
 
--- the rights that a directory is opened with
+-- the rights with which a directory is opened
 abbrev pub rights_words : RightSet → TextBytes
 rights_words rights = codes " rights " ++ text_of rights
 
@@ -53,7 +53,7 @@ place_text r = r.path ++ (codes " at " ++ (source_text r.provider ++ when_some r
 abbrev pub route_text : Route → TextBytes
 route_text r = place_text r ++ (codes " through " ++ joined_by (codes ", ") hop_text r.hops)
 
--- why there is no route, and the hop that fails
+-- why there is no route, and the hop at which it fails
 abbrev pub failure_text : Hop → Why → TextBytes
 failure_text hop reason = why_word reason ++ (codes " at " ++ hop_text hop)
 

@@ -43,11 +43,11 @@ use Rattle.cm_reply.specs.Examples.{child, element, log_sink, hop}
 
 -- ---- values
 
--- a name
+-- the name `core`, of an instance in the examples
 abbrev pub core : List ℕ
 core = codes "core"
 
--- a ring through a child in a collection
+-- a cycle through a child in a collection
 abbrev pub ring : List Node
 ring = node.Own ∷ node.Child (record { coll = Some (codes "k"); name = codes "a" }) ∷ node.Own ∷ []
 
@@ -64,7 +64,7 @@ give = record {
   availability = Optional;
 }
 
--- what is to be done at core
+-- an action's work at core; of it only two numbers are ever written
 abbrev pub work : Work
 work = record { action = 9; inc = 5; moniker = child core; base = []; url = []; runner = None; eager = [] }
 
@@ -80,12 +80,12 @@ look = record {
   pending = Some Resolve;
 }
 
--- an instance that runs; its paths are not written
+-- an instance that runs; its paths aren't written
 abbrev pub survey_row : SurveyRow
 survey_row =
     record { inc = 5; moniker = element; resolved = true; on = true; shut = false; paths = log_sink ∷ [] }
 
--- what the framework provides
+-- a route to what the framework provides
 abbrev pub framework_route : WholeRoute
 framework_route = record {
   hops = hop UseHop 5 (child core) ∷ hop FrameworkHop 5 (child core) ∷ [];
@@ -94,7 +94,7 @@ framework_route = record {
   provider = provider.Framework;
 }
 
--- a builtin directory, which the root uses
+-- a route from the root to a builtin directory
 abbrev pub builtin_route : WholeRoute
 builtin_route = record {
   hops = hop UseHop 0 (record { parts = [] }) ∷ hop BuiltinHop 0 (record { parts = [] }) ∷ [];
@@ -105,6 +105,7 @@ builtin_route = record {
 
 -- ---- the tables
 
+-- each refusal once
 abbrev pub refusals : List Refusal
 refusals =
     refusal.CollectionNotFound
@@ -129,6 +130,7 @@ refusals =
     ∷ refusal.Memory
     ∷ []
 
+-- how they are written, in the same order
 abbrev pub refusal_texts : List TextBytes
 refusal_texts =
     codes "refused 60 collection-not-found"
@@ -157,6 +159,7 @@ refusal_texts =
 abbrev pub PrintsRefusals : Type 0
 PrintsRefusals = map refusal_text refusals ≡ refusal_texts
 
+-- each reason why there is no route, once
 abbrev pub reasons : List Why
 reasons =
     why.NoOffer
@@ -167,6 +170,7 @@ reasons =
     ∷ why.RightsTooWeak reading no_rights
     ∷ []
 
+-- how they are written, in the same order
 abbrev pub reason_words : List TextBytes
 reason_words =
     codes "no-offer"
@@ -181,6 +185,7 @@ reason_words =
 abbrev pub PrintsReasons : Type 0
 PrintsReasons = map why_word reasons ≡ reason_words
 
+-- each outcome of an action, once
 abbrev pub outcomes : List Outcome
 outcomes =
     outcome.Resolved
@@ -196,6 +201,7 @@ outcomes =
     ∷ outcome.NoMemory
     ∷ []
 
+-- how they are written, in the same order
 abbrev pub outcome_texts : List TextBytes
 outcome_texts =
     codes "resolved"
@@ -215,6 +221,7 @@ outcome_texts =
 abbrev pub PrintsOutcomes : Type 0
 PrintsOutcomes = map outcome_text outcomes ≡ outcome_texts
 
+-- each kind of event, at least once
 abbrev pub events : List Event
 events =
     event.Find element
@@ -239,6 +246,7 @@ events =
     ∷ event.Reap 5
     ∷ []
 
+-- how they are written, in the same order
 abbrev pub event_texts : List TextBytes
 event_texts =
     codes "find core/session/elements:e1"
@@ -268,6 +276,7 @@ event_texts =
 abbrev pub PrintsEvents : Type 0
 PrintsEvents = map event_text events ≡ event_texts
 
+-- each kind of reply, at least once
 abbrev pub replies : List Reply
 replies =
     reply.Found 2
@@ -311,6 +320,7 @@ replies =
     ∷ reply.Reaping []
     ∷ []
 
+-- how they are written, in the same order
 abbrev pub reply_texts : List TextBytes
 reply_texts =
     codes "found 2"
@@ -361,6 +371,7 @@ PrintsReplies = map replied_text replies ≡ reply_texts
 
 -- ---- short answers
 
+-- answers that have one line, as they are written
 abbrev pub answers : List TextBytes
 answers =
     reply_text (command.Resolve (Named (child core))) (Ok (answer.Resolved (Some 4)))
@@ -376,6 +387,7 @@ answers =
     ∷ reply_text (command.Events (Inc 5) 9) (Ok (answer.Streamed 8 []))
     ∷ []
 
+-- the lines that these should be, in the same order
 abbrev pub answer_texts : List TextBytes
 answer_texts =
     codes "resolved core action 4"

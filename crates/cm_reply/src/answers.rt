@@ -40,7 +40,7 @@ use std::alloc::Global;
 /// `capability`, `framework` or `builtin`, and the moniker of its instance. STATE is `resolved` or
 /// `unresolved`, `on` or `off`, then `closing`, `shut` and `pending KIND` where that is so; a
 /// survey leaves out `closing` and what is pending. KIND is `resolved`, `started`, `stopped` or
-/// `destroyed`, and the N behind `next` is the number of entries so far. ROUTE is the text of the
+/// `destroyed`, and the N after `next` is the number of entries so far. ROUTE is the text of the
 /// use's route, or of why it has none.
 ///
 /// A refusal is `refused` and these words:
@@ -67,7 +67,7 @@ use std::alloc::Global;
 /// name is then left out.
 ///
 /// What comes one each stands on a line of its own that begins with two spaces. No line feed
-/// stands behind the last line. `Err` where memory runs out. It takes time and memory in
+/// stands after the last line. `Err` where memory runs out. It takes time and memory in
 /// proportion to the text.
 pub fn reply_text(
     alloc: Global,
@@ -327,6 +327,7 @@ impl ListItem for Checked {
 
     ghost written = { checked_text };
 
+    /// A line of `doctor`: the moniker, and what is said of the instance or of one of its uses.
     fn push_to(&self, text: &mut String) -> Result<(), Memory> {
         push_moniker(text, &self.moniker)?;
         push(text, " ")?;

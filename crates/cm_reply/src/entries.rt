@@ -30,7 +30,7 @@ pub struct JournalLine {
     pub reply: Text,
 }
 
-/// What stands before the last arrow of a line and behind it; `None` where there is no arrow.
+/// What stands before the last arrow of a line and after it; `None` where there is no arrow.
 fn cut_at_arrow(line: &[u8]) -> Option<(&[u8], &[u8])>
     ensures { MatchOption result ((prefix rest : Seq ℕ) → line.now ≡ prefix ++ (lines.arrow ++ rest) → ⊥)
         (λ parts. IsCutAtLast line.now parts.0.now parts.1.now) }
@@ -84,7 +84,7 @@ fn read_asked(alloc: Global, text: &[u8]) -> Result<Asked, EntryFault>
 ///
 /// - `NotAnEntry` exactly where the line isn't so;
 /// - `Memory` where memory runs out, and for a creation whose line has more than 4,294,967,287 bytes
-///   behind the word `create`.
+///   after the word `create`.
 ///
 /// It takes time and memory in proportion to the line. The journal is this project's own.
 pub fn read_entry(alloc: Global, line: &[u8]) -> Result<JournalLine, EntryFault>

@@ -48,6 +48,7 @@ impl From<Memory> for EntryFault {
 
     ghost from_gives = { λ _ e. e ≡ OutOfMemory };
 
+    /// For `?` after a call that lacked memory.
     fn from(_: Memory) -> EntryFault {
         EntryFault::Memory
     }
@@ -105,7 +106,7 @@ pub fn short_number(word: &[u8]) -> Result<u32, EntryFault>
     }
 }
 
-/// The number before the first space, and what stands behind it.
+/// The number before the first space, and what stands after it.
 pub fn numbered(rest: &[u8]) -> Result<(u64, &[u8]), EntryFault>
     ensures small { IfOk result (λ r. r.0 < 2 ^ 64) }
     ensures finds { (n : ℕ) (more : Seq ℕ) → n < 2 ^ 64 → rest.now ≡ decimal n ++ 32 ∷ more →
@@ -132,7 +133,7 @@ fn path(alloc: Global, word: &[u8]) -> Result<CapPath, EntryFault>
     }
 }
 
-/// A number, and the path behind it.
+/// A number, and the path after it.
 pub fn numbered_path(alloc: Global, rest: &[u8]) -> Result<(u64, CapPath), EntryFault>
     ensures small { IfOk result (λ r. r.0 < 2 ^ 64) }
     ensures path { IfOk result (λ r. IsTrue (is_path r.1)) }
@@ -160,7 +161,7 @@ pub fn name(alloc: Global, word: &[u8]) -> Result<Name, EntryFault>
     }
 }
 
-/// A number, and the name behind it.
+/// A number, and the name after it.
 pub fn numbered_name(alloc: Global, rest: &[u8]) -> Result<(u64, Name), EntryFault>
     ensures small { IfOk result (λ r. r.0 < 2 ^ 64) }
     ensures name { IfOk result (λ r. IsName r.1) }
@@ -213,7 +214,7 @@ fn decl_fault(fault: ReadFault) -> EntryFault
     }
 }
 
-/// The declaration of that text.
+/// The declaration that a text of a journal's line is read as, or the line's fault.
 pub fn decl(alloc: Global, text: &[u8]) -> Result<Shared<Decl>, EntryFault>
     ensures readable { IfOk result IsReadable }
     ensures finds { (d : OneDecl) → IsReadable d → text.now ≡ decl_text d → IsOr result d }

@@ -56,7 +56,7 @@ pub fn event_word(word: &[u8]) -> Option<EventWord>
     }
 }
 
-/// The event of that word.
+/// The kind of event whose text begins with this word, if there is one.
 fn event_named(word: &str) -> Option<EventWord>
     ensures { result ≡ spec.event_named word.now }
 {

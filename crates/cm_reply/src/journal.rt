@@ -123,7 +123,7 @@ fn push_builtin(text: &mut String, builtin: &Builtin) -> Result<(), Memory>
     push_words(text, builtin)
 }
 
-/// Puts the builtin capability at the end, behind its first word.
+/// Puts the builtin capability at the end, after its first word.
 fn push_words(text: &mut String, builtin: &Builtin) -> Result<(), Memory>
     ensures { OnOk result (GainsText text.old text.new
         (spec.builtin_words builtin.now.kind builtin.now)) }
@@ -142,7 +142,7 @@ fn push_words(text: &mut String, builtin: &Builtin) -> Result<(), Memory>
     }
 }
 
-/// Puts the path of a directory at the end, and its rights behind a space, where it has some.
+/// Puts the path of a directory at the end, and its rights after a space, where it has some.
 fn push_served(text: &mut String, builtin: &Builtin) -> Result<(), Memory>
     ensures { OnOk result (GainsText text.old text.new
         (builtin.now.path ++ when_some spec.provided_rights builtin.now.rights)) }
@@ -151,7 +151,7 @@ fn push_served(text: &mut String, builtin: &Builtin) -> Result<(), Memory>
     push_provided(text, builtin.rights)
 }
 
-/// Puts the rights of a directory at the end, behind a space; nothing where it has none.
+/// Puts the rights of a directory at the end, after a space; nothing where it has none.
 fn push_provided(text: &mut String, rights: Option<Rights>) -> Result<(), Memory>
     ensures { OnOk result (GainsText text.old text.new (when_some spec.provided_rights rights)) }
 {

@@ -21,7 +21,7 @@ pub fn entries_read_one_way()
     ensures { EntriesReadOneWay }
 {}
 
-/// Each event is told by its first word and what stands behind it.
+/// Each event is told by its first word and what stands after it.
 pub fn each_is_told()
     ensures { EachIsTold }
 {}

@@ -56,6 +56,7 @@ impl ListItem for ChildName {
 
     ghost written = { child_text };
 
+    /// A part of a moniker: `name`, or `collection:name`.
     fn push_to(&self, text: &mut String) -> Result<(), Memory> {
         match &self.coll {
             None => push(text, self.name.as_str()),
@@ -72,12 +73,13 @@ impl ListItem for ChildName {
 impl<T: ListItem + Drop> ListItem for Shared<T> {
     ghost written = { T.written };
 
+    /// A shared item is written as the item.
     fn push_to(&self, text: &mut String) -> Result<(), Memory> {
         self.get().push_to(text)
     }
 }
 
-/// Puts names of children at the end, each behind a slash.
+/// Puts names of children at the end, each after a slash.
 fn push_behind_slashes(text: &mut String, parts: &[Shared<ChildName>]) -> Result<(), Memory>
     ensures { OnOk result (GainsText text.old text.new
         (spec.each_behind (codes "/") child_text parts.now)) }
@@ -107,7 +109,7 @@ pub fn push_moniker(text: &mut String, moniker: &Moniker) -> Result<(), Memory>
     push_parts(text, moniker.parts.as_slice())
 }
 
-/// Puts the text of each item, behind that mark, at the end. `Err` where memory runs out.
+/// Puts the text of each item, after that mark, at the end. `Err` where memory runs out.
 pub fn push_each<T: ListItem>(text: &mut String, mark: &str, items: &[T]) -> Result<(), Memory>
     ensures { OnOk result (GainsText text.old text.new (spec.each_behind mark.now T.written items.now)) }
 {
@@ -118,7 +120,7 @@ pub fn push_each<T: ListItem>(text: &mut String, mark: &str, items: &[T]) -> Res
     Ok(())
 }
 
-/// Puts the text of each item, behind a space and between brackets, at the end. `Err` where
+/// Puts the text of each item, after a space and between brackets, at the end. `Err` where
 /// memory runs out.
 pub fn push_bracketed<T: ListItem>(text: &mut String, items: &[T]) -> Result<(), Memory>
     ensures { OnOk result (GainsText text.old text.new (spec.bracketed T.written items.now)) }

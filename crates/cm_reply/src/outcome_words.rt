@@ -23,7 +23,7 @@ use cm_decl::Section;
 use cm_world::{FaultNote, Finish, Outcome};
 use std::alloc::Global;
 
-/// What the text behind `end ACTION ` reports: an outcome, or `resolved URL DECLARATION`.
+/// What the text after `end ACTION ` reports: an outcome, or `resolved URL DECLARATION`.
 pub fn finish(alloc: Global, text: &[u8]) -> Result<Finish, EntryFault>
     ensures legible { IfOk result IsLegibleFinish }
     ensures finds { (f : OneFinish) → IsLegibleFinish f → text.now ≡ events.finish_text f →
@@ -38,7 +38,7 @@ pub fn finish(alloc: Global, text: &[u8]) -> Result<Finish, EntryFault>
     }
 }
 
-/// A URL, and the declaration behind it.
+/// A URL, and the declaration after it.
 fn resolved(alloc: Global, text: &[u8]) -> Result<Finish, EntryFault>
     ensures legible { IfOk result IsLegibleFinish }
     ensures finds { (t : Seq ℕ) (d : OneDecl) → IsLegibleFinish (reported.Resolved t d) →
@@ -88,7 +88,7 @@ fn plain_outcome(word: &[u8]) -> Option<Outcome>
     }
 }
 
-/// The outcome of that word.
+/// The outcome of an action that is written as this word, if there is one.
 fn outcome_named(word: &str) -> Option<Outcome>
     ensures named { result ≡ spec.outcome_named word.now }
     ensures legible { IfSome result IsLegibleOutcome }
@@ -108,7 +108,7 @@ fn outcome_named(word: &str) -> Option<Outcome>
     }
 }
 
-/// The fault of a manifest, behind `invalid `: its number, its section and its index.
+/// The fault of a manifest, after `invalid `: its number, its section and its index.
 fn note(text: &[u8]) -> Result<FaultNote, EntryFault>
     ensures legible { IfOk result IsLegibleNote }
     ensures finds { (n : OneNote) → IsLegibleNote n → text.now ≡ spec.note_words n →
@@ -132,7 +132,7 @@ fn note(text: &[u8]) -> Result<FaultNote, EntryFault>
     }
 }
 
-/// A section, and an index behind it.
+/// A section, and an index after it.
 fn place(text: &[u8]) -> Result<(Section, u32), EntryFault>
     ensures small { IfOk result (λ place. place.1 < 2 ^ 32) }
     ensures finds { (s : OneSection) (n : ℕ) → n < 2 ^ 32 →
@@ -161,7 +161,7 @@ fn section_of(word: &[u8]) -> Option<Section>
     }
 }
 
-/// The section of that word.
+/// The section of a manifest that faults tell by this word, if there is one.
 fn section_named(word: &str) -> Option<Section>
     ensures { result ≡ spec.section_named word.now }
 {

@@ -24,7 +24,7 @@ use cm_names::{Bytes, List, Name, Text};
 use cm_world::{Event, Target};
 use std::alloc::Global;
 
-/// The most bytes that are read behind the word `create`: with `create @` in front they are fewer than
+/// The most bytes that are read after the word `create`: with `create @` in front they are fewer than
 /// 2^32, as those of a command have to be.
 const MOST_OF_CREATE: usize = 4_294_967_287;
 
@@ -39,7 +39,7 @@ pub struct Asked {
     pub event: Event,
 }
 
-/// `find MONIKER`, behind its word.
+/// `find MONIKER`, after its word.
 fn find(alloc: Global, rest: &[u8]) -> Result<Event, EntryFault>
     ensures legible { IfOk result IsLegible }
     ensures finds { FindsEvent word.Find rest.now result }
@@ -47,7 +47,7 @@ fn find(alloc: Global, rest: &[u8]) -> Result<Event, EntryFault>
     Ok(Event::Find(moniker(alloc, rest)?))
 }
 
-/// `await ACTION`, behind its word.
+/// `await ACTION`, after its word.
 fn await_end(rest: &[u8]) -> Result<Event, EntryFault>
     ensures legible { IfOk result IsLegible }
     ensures finds { FindsEvent word.Await rest.now result }
@@ -55,7 +55,7 @@ fn await_end(rest: &[u8]) -> Result<Event, EntryFault>
     Ok(Event::Await(number(rest)?))
 }
 
-/// `pick N`, behind its word.
+/// `pick N`, after its word.
 fn pick(rest: &[u8]) -> Result<Event, EntryFault>
     ensures legible { IfOk result IsLegible }
     ensures finds { FindsEvent word.Pick rest.now result }
@@ -63,7 +63,7 @@ fn pick(rest: &[u8]) -> Result<Event, EntryFault>
     Ok(Event::Pick(number(rest)?))
 }
 
-/// `purge N`, behind its word.
+/// `purge N`, after its word.
 fn purge(rest: &[u8]) -> Result<Event, EntryFault>
     ensures legible { IfOk result IsLegible }
     ensures finds { FindsEvent word.Purge rest.now result }
@@ -71,7 +71,7 @@ fn purge(rest: &[u8]) -> Result<Event, EntryFault>
     Ok(Event::Purge(number(rest)?))
 }
 
-/// `show N`, behind its word.
+/// `show N`, after its word.
 fn show(rest: &[u8]) -> Result<Event, EntryFault>
     ensures legible { IfOk result IsLegible }
     ensures finds { FindsEvent word.Show rest.now result }
@@ -79,7 +79,7 @@ fn show(rest: &[u8]) -> Result<Event, EntryFault>
     Ok(Event::Show(number(rest)?))
 }
 
-/// `survey N`, behind its word.
+/// `survey N`, after its word.
 fn survey(rest: &[u8]) -> Result<Event, EntryFault>
     ensures legible { IfOk result IsLegible }
     ensures finds { FindsEvent word.Survey rest.now result }
@@ -87,7 +87,7 @@ fn survey(rest: &[u8]) -> Result<Event, EntryFault>
     Ok(Event::Survey(number(rest)?))
 }
 
-/// `exited N`, behind its word.
+/// `exited N`, after its word.
 fn exited(rest: &[u8]) -> Result<Event, EntryFault>
     ensures legible { IfOk result IsLegible }
     ensures finds { FindsEvent word.Exited rest.now result }
@@ -95,7 +95,7 @@ fn exited(rest: &[u8]) -> Result<Event, EntryFault>
     Ok(Event::Exited(number(rest)?))
 }
 
-/// `reap N`, behind its word.
+/// `reap N`, after its word.
 fn reap(rest: &[u8]) -> Result<Event, EntryFault>
     ensures legible { IfOk result IsLegible }
     ensures finds { FindsEvent word.Reap rest.now result }
@@ -103,7 +103,7 @@ fn reap(rest: &[u8]) -> Result<Event, EntryFault>
     Ok(Event::Reap(number(rest)?))
 }
 
-/// `begin KIND N`, behind its word.
+/// `begin KIND N`, after its word.
 fn begin(rest: &[u8]) -> Result<Event, EntryFault>
     ensures legible { IfOk result IsLegible }
     ensures finds { FindsEvent word.Begin rest.now result }
@@ -122,7 +122,7 @@ fn begin(rest: &[u8]) -> Result<Event, EntryFault>
     }
 }
 
-/// `end ACTION OUTCOME`, behind its word.
+/// `end ACTION OUTCOME`, after its word.
 fn end(alloc: Global, rest: &[u8]) -> Result<Event, EntryFault>
     ensures legible { IfOk result IsLegible }
     ensures finds { FindsEvent word.End rest.now result }
@@ -137,7 +137,7 @@ fn end(alloc: Global, rest: &[u8]) -> Result<Event, EntryFault>
     }
 }
 
-/// `mark closing N` or `mark doomed N`, behind its word.
+/// `mark closing N` or `mark doomed N`, after its word.
 fn mark(rest: &[u8]) -> Result<Event, EntryFault>
     ensures legible { IfOk result IsLegible }
     ensures finds { FindsEvent word.Mark rest.now result }
@@ -156,7 +156,7 @@ fn mark(rest: &[u8]) -> Result<Event, EntryFault>
     }
 }
 
-/// `tail N FROM`, behind its word.
+/// `tail N FROM`, after its word.
 fn tail(rest: &[u8]) -> Result<Event, EntryFault>
     ensures legible { IfOk result IsLegible }
     ensures finds { FindsEvent word.Tail rest.now result }
@@ -171,7 +171,7 @@ fn tail(rest: &[u8]) -> Result<Event, EntryFault>
     }
 }
 
-/// The command `create @N COLLECTION NAME URL` with its groups, of what stands behind `create ` in a
+/// The command `create @N COLLECTION NAME URL` with its groups, of what stands after `create ` in a
 /// journal.
 fn created_by(alloc: Global, rest: &[u8]) -> Result<Command, EntryFault>
     ensures read { IfOk result (λ command. CommandText (codes "create @" ++ rest.now) command) }
@@ -208,7 +208,7 @@ fn created(
     }
 }
 
-/// `create N COLLECTION NAME URL` with its groups, behind its word: a command has them so, with `@`
+/// `create N COLLECTION NAME URL` with its groups, after its word: a command has them so, with `@`
 /// before the number.
 fn create(alloc: Global, rest: &[u8]) -> Result<Event, EntryFault>
     ensures legible { IfOk result IsLegible }
@@ -233,7 +233,7 @@ fn create(alloc: Global, rest: &[u8]) -> Result<Event, EntryFault>
     }
 }
 
-/// `route N PATH`, behind its word.
+/// `route N PATH`, after its word.
 fn route(alloc: Global, rest: &[u8]) -> Result<Event, EntryFault>
     ensures legible { IfOk result IsLegible }
     ensures finds { FindsEvent word.Route rest.now result }
@@ -242,7 +242,7 @@ fn route(alloc: Global, rest: &[u8]) -> Result<Event, EntryFault>
     Ok(Event::Route(inc, path))
 }
 
-/// `open N PATH`, behind its word.
+/// `open N PATH`, after its word.
 fn open_use(alloc: Global, rest: &[u8]) -> Result<Event, EntryFault>
     ensures legible { IfOk result IsLegible }
     ensures finds { FindsEvent word.Open rest.now result }
@@ -251,7 +251,7 @@ fn open_use(alloc: Global, rest: &[u8]) -> Result<Event, EntryFault>
     Ok(Event::OpenUse(inc, path))
 }
 
-/// `open-exposed N NAME`, behind its word.
+/// `open-exposed N NAME`, after its word.
 fn open_exposed(alloc: Global, rest: &[u8]) -> Result<Event, EntryFault>
     ensures legible { IfOk result IsLegible }
     ensures finds { FindsEvent word.OpenExposed rest.now result }
@@ -260,7 +260,7 @@ fn open_exposed(alloc: Global, rest: &[u8]) -> Result<Event, EntryFault>
     Ok(Event::OpenExposed(inc, name))
 }
 
-/// `list N COLLECTION`, behind its word.
+/// `list N COLLECTION`, after its word.
 fn list(alloc: Global, rest: &[u8]) -> Result<Event, EntryFault>
     ensures legible { IfOk result IsLegible }
     ensures finds { FindsEvent word.List rest.now result }
@@ -269,7 +269,7 @@ fn list(alloc: Global, rest: &[u8]) -> Result<Event, EntryFault>
     Ok(Event::Listing(inc, coll))
 }
 
-/// The event of that word, behind it.
+/// The event of that word, after it.
 fn behind(alloc: Global, first: EventWord, rest: &[u8]) -> Result<Event, EntryFault>
     ensures legible { IfOk result IsLegible }
     ensures finds { FindsEvent first rest.now result }

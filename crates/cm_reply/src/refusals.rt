@@ -21,12 +21,13 @@ impl ListItem for Node {
 
     ghost written = { node_text };
 
+    /// A node of a cycle: `self`, or the child's name.
     fn push_to(&self, text: &mut String) -> Result<(), Memory> {
         push_value(text, self)
     }
 }
 
-/// Puts a word and each node behind a space at the end. `Err` where memory runs out.
+/// Puts a word and each node after a space at the end. `Err` where memory runs out.
 pub fn push_cycle(text: &mut String, word: &str, nodes: &[Node]) -> Result<(), Memory>
     ensures { OnOk result (GainsText text.old text.new
         (word.now ++ each_behind (codes " ") node_text nodes.now)) }

@@ -14,7 +14,7 @@ use cm_names::{Memory, Text};
 use cm_world::Reply;
 use std::alloc::Global;
 
-/// The reply to an event as a journal has it: what stands behind ` => ` in [`crate::entry_text`]. `Err`
+/// The reply to an event as a journal has it: what stands after ` => ` in [`crate::entry_text`]. `Err`
 /// where memory runs out.
 pub fn replied_text(alloc: Global, reply: &Reply) -> Result<Text, Memory>
     ensures { IfOk result (λ text. text ≡ spec.replied_text reply.now) }
@@ -74,6 +74,7 @@ impl ListItem for u64 {
 
     ghost written = { decimal };
 
+    /// An incarnation, in decimal digits.
     fn push_to(&self, text: &mut String) -> Result<(), Memory> {
         push_value(text, *self)
     }

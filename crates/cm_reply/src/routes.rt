@@ -10,7 +10,7 @@ use crate::words::push_incarnation;
 use cm_names::{Memory, Rights};
 use cm_world::{Hop, Provider, Route, StepKind, Why};
 
-/// The word for a hop.
+/// The word for a hop, by its kind.
 fn step_word(step: StepKind) -> &'static str
     ensures { result.now ≡ spec.step_word step }
 {
@@ -44,6 +44,7 @@ impl ListItem for Hop {
 
     ghost written = { hop_text };
 
+    /// A hop of a route: its word, and its instance's moniker.
     fn push_to(&self, text: &mut String) -> Result<(), Memory> {
         push(text, step_word(self.step))?;
         push(text, " ")?;
@@ -76,7 +77,7 @@ pub fn push_source(text: &mut String, provider: &Provider) -> Result<(), Memory>
     }
 }
 
-/// Puts the rights that a directory is opened with at the end, behind ` rights `; nothing for a
+/// Puts the rights that a directory is opened with at the end, after ` rights `; nothing for a
 /// protocol.
 fn push_rights(text: &mut String, rights: Option<Rights>) -> Result<(), Memory>
     ensures { OnOk result (GainsText text.old text.new (when_some spec.rights_words rights)) }

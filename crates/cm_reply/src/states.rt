@@ -11,7 +11,7 @@ use cm_names::{Memory, Text};
 use cm_read::ReadFault;
 use cm_world::{ActKind, FaultNote, HappenKind, Happening, Kid, Look, Outcome, SurveyRow};
 
-/// The word for an action.
+/// The word for a kind of action.
 pub fn act_word(kind: ActKind) -> &'static str
     ensures { result.now ≡ spec.act_word kind }
 {
@@ -55,12 +55,14 @@ pub fn push_outcome(text: &mut String, outcome: Outcome) -> Result<(), Memory>
     }
 }
 
+/// Whether an instance is resolved, in a word.
 fn resolved_word(resolved: bool) -> &'static str
     ensures { result.now ≡ spec.resolved_word resolved }
 {
     if resolved { "resolved" } else { "unresolved" }
 }
 
+/// Whether an instance's program is on, in a word after a space.
 fn on_word(on: bool) -> &'static str
     ensures { result.now ≡ spec.on_word on }
 {
@@ -74,7 +76,7 @@ pub fn when(holds: bool, text: &'static str) -> &'static str
     if holds { text } else { "" }
 }
 
-/// Puts the action that hasn't ended at the end, behind ` pending `; nothing where there is none.
+/// Puts the action that hasn't ended at the end, after ` pending `; nothing where there is none.
 fn push_pending(text: &mut String, pending: Option<ActKind>) -> Result<(), Memory>
     ensures { OnOk result (GainsText text.old text.new (when_some spec.pending_words pending)) }
 {
@@ -115,6 +117,7 @@ impl ListItem for SurveyRow {
 
     ghost written = { survey_text };
 
+    /// A line of a survey: the moniker, the incarnation, and how the instance is.
     fn push_to(&self, text: &mut String) -> Result<(), Memory> {
         push_moniker(text, &self.moniker)?;
         push_incarnation(text, self.inc)?;
@@ -123,7 +126,7 @@ impl ListItem for SurveyRow {
     }
 }
 
-/// The word for what happened, behind a space.
+/// The word for what happened, after a space.
 fn happen_word(kind: HappenKind) -> &'static str
     ensures { result.now ≡ spec.happen_word kind }
 {
@@ -141,6 +144,7 @@ impl ListItem for Happening {
 
     ghost written = { happening_text };
 
+    /// A line of `events`: the entry's number, what happened, and to which instance.
     fn push_to(&self, text: &mut String) -> Result<(), Memory> {
         push_value(text, self.number)?;
         push(text, happen_word(self.kind))?;
@@ -155,6 +159,7 @@ impl ListItem for Kid {
 
     ghost written = { kid_text };
 
+    /// A line of `list`: the child's name and its incarnation.
     fn push_to(&self, text: &mut String) -> Result<(), Memory> {
         push(text, self.name.as_str())?;
         push_incarnation(text, self.inc)

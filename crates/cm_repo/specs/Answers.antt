@@ -1,8 +1,8 @@
 -- Inside.
--- Calls that may run out of memory, or be refused as is expected.
+-- What calls promise that may run out of memory or be refused.
 use Rattle.std.specs.Prelude.{◌≡◌, ◌⊎◌, Result, Ok, Err, MatchResult}
 
--- the fault is out of memory, or the expected refusal
+-- the fault says that memory ran out, or is the expected one
 abbrev pub IsRepoRefusal : {A E : Type 0} → E → E → Result A E → Type 0
 IsRepoRefusal memory fault expected = (expected ≡ Err fault) ⊎ (fault ≡ memory)
 

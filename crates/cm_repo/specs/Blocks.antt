@@ -1,5 +1,6 @@
 -- Promised.
--- A repository as the list of its blocks, each a key and the bytes under it.
+-- The manifests that a script brings itself: a list of blocks, each with its URL's text as key and its
+-- bytes.
 use Rattle.std.specs.Prelude.{ℕ, List, [], ◌∷◌, ◌++◌, map, Option, Result, Ok, Err, is_some}
 use Rattle.std.specs.Prelude.{String, string_bytes, if◌then◌else◌}
 use Rattle.std.specs.Map.{lookup}
@@ -13,28 +14,29 @@ use Rattle.cm_repo.specs.declared.fault.UrlFault.TheVariants as url
 use Rattle.cm_repo.specs.declared.fault.RepoFault.{RepoFault}
 use Rattle.cm_repo.specs.declared.fault.RepoFault.TheVariants.{BadUrl, NoFragment, Repeated, Memory}
 
+-- the keys and the bytes of all blocks, in the order in which they came
 abbrev pub Blocks : Type 0
 Blocks = List (List ℕ × List ℕ)
 
--- the blocks that the entries of a map stand for
+-- the blocks that a map's entries stand for
 abbrev pub blocks_of : List (String Global × List ℕ) → Blocks
 blocks_of entries = map (λ entry. (string_bytes entry.0, entry.1)) entries
 
--- the bytes under a key, if there are any
+-- the bytes with this key, if there are some
 abbrev pub block_at : Blocks → List ℕ → Option (List ℕ)
 block_at blocks key = lookup (bytes_eq key) blocks
 
--- a fault of the URL, as the repository's
+-- the fault of a block by that of its URL
 abbrev pub repo_fault : UrlFault → RepoFault
 repo_fault url.BadUrl = BadUrl
 repo_fault url.NoFragment = NoFragment
 repo_fault url.Memory = Memory
 
--- the block put last, where nothing stands under its key yet
+-- the blocks with one more, unless its key is there already
 abbrev pub put : Blocks → List ℕ → List ℕ → Result Blocks RepoFault
 put blocks bytes key =
     if is_some (block_at blocks key) then Err Repeated else Ok (blocks ++ (key, bytes) ∷ [])
 
--- the blocks with one more, whose key is the text of its URL
+-- the blocks with one more, whose key is the text of its URL; or why it is refused
 abbrev pub added : Blocks → List ℕ → List ℕ → Result Blocks RepoFault
 added blocks url bytes = result_map_both (λ key. key) repo_fault (key_of url) >>= put blocks bytes

@@ -25,6 +25,7 @@ impl From<Memory> for UrlFault {
 
     ghost from_gives = { λ _ fault. fault ≡ Memory };
 
+    /// For `?` after a call that lacked memory.
     fn from(_: Memory) -> UrlFault {
         UrlFault::Memory
     }
@@ -54,6 +55,7 @@ impl From<UrlFault> for RepoFault {
 
     ghost from_gives = { λ given fault. fault ≡ repo_fault given };
 
+    /// For `?` after a call that judged a URL: the same fault, of the block with that URL.
     fn from(fault: UrlFault) -> RepoFault {
         match fault {
             UrlFault::BadUrl => RepoFault::BadUrl,
@@ -69,6 +71,7 @@ impl<T: Drop> From<AllocFailed<T>> for RepoFault {
 
     ghost from_gives = { λ _ fault. fault ≡ Memory };
 
+    /// For `?` where an allocation fails: memory ran out.
     fn from(_: AllocFailed<T>) -> RepoFault {
         RepoFault::Memory
     }

@@ -78,7 +78,7 @@ impl Repository {
     }
 }
 
-/// The string of a key.
+/// The key as the string by which the map finds it.
 fn string_of(key: Text) -> Result<String, RepoFault>
     ensures ok { IfOk result (λ text. string_bytes text ≡ key) }
     ensures err { IfErr result (λ fault. fault ≡ Memory) }

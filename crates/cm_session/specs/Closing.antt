@@ -1,5 +1,5 @@
 -- Inside.
--- How the turn at a door is closed, and all links are put together.
+-- How the door's turns end, and the links of all workers are put together.
 use Rattle.std.specs.Prelude.{◌≡◌, ℕ, ◌+◌, ◌<◌, ◌≤◌, Bool, true, false, List, [], ◌∷◌, ◌++◌, All, map}
 use Rattle.std.specs.Prelude.{length, Some}
 use Rattle.std.specs.Prelude.{slice_get}
@@ -19,13 +19,13 @@ module _ {L : Type 0} where
   abbrev pub backs_of : ℕ → List L → List (Back L)
   backs_of k links = map (λ l. record { worker = k; link = l }) links
 
-  -- the links of the workers from k on, worker by worker
+  -- the links of the workers from number k on, worker by worker, as they are handed back
   abbrev pub links_from : ℕ → List (Links L) → List (Back L)
   links_from k [] = []
   links_from k (links ∷ others) = backs_of k links.items ++ links_from (k + 1) others
 
-  -- the passes of the sixteen workers at a door, and the links of each, which are as many as its entries with
-  -- a link; and there is room for as many as were asked for
+  -- the passes of the sixteen workers at a door, and the links of each: as many as its accepts that
+  -- gave a link, with room for as many as were asked for
   pub record CountsLinks (passes : List DoorPass) (links : List (Links L)) (capacity : ℕ) : Type 0 where
     pub count : length passes ≡ 16
     pub callers : (k : ℕ) (p : DoorPass) → slice_get passes k ≡ Some p → p.caller ≡ k
@@ -34,15 +34,15 @@ module _ {L : Type 0} where
         → links_of p.mine ≡ length r.items
     pub room : All (λ p. sessions_of p ≤ capacity) passes
 
--- the first that applies
+-- why serving ended: memory ran out (the first flag), else the door failed (the second), else it was
+-- done
 abbrev pub cause_of : Bool → Bool → Cause
 cause_of true failed = cause.Memory
 cause_of false true = cause.DoorFault
 cause_of false false = cause.Done
 
--- the door was opened so, and comes back with these accepts: it counted them, the passes have seen prefixes
--- of
--- them, the links that come back are as many, and peers may come where they could
+-- the door comes back after these accepts: it has counted them, each pass has seen a prefix of them,
+-- the links that come back are as many as it gave, and peers may come where they could
 pub record ClosesDoor (passes : List DoorPass) (now : DoorCounts) (place_now : DoorPlace) (links : ℕ)
     (lost : Bool) (why : Cause) : Type 0 where
   pub opening : Opening

@@ -7,8 +7,8 @@ use Rattle.cm_io.specs.declared.sink.Sink as sink
 use Rattle.cm_io.specs.declared.source.Source as source
 use Rattle.cm_reply.specs.Lists.{TextBytes}
 
--- a link as contracts see it: what it tells as a source, what it tells as a sink, and in which order it was
--- read, written and hung up on, where it tells that
+-- a link, a connection to one peer, as contracts see it: what it tells as a source of bytes, as a sink
+-- of bytes, and, where it tells that, the order in which it was read, written and hung up on
 pub record LinkView : Type 0 where
   pub source : AsSource
   pub sink : AsSink
@@ -38,12 +38,12 @@ view_of as_source as_sink l = record {
 abbrev pub BeginsWithBytes : {A : Type 0} → List A → List A → Type 0
 BeginsWithBytes all prefix = (rest : List _) × (all ≡ prefix ++ rest)
 
--- a byte before the first line, if there is one
+-- the lines with one more byte at the start of the first; a byte without a line is dropped
 abbrev pub in_prefix_of_some : ℕ → List TextBytes → List TextBytes
 in_prefix_of_some byte [] = []
 in_prefix_of_some byte (line ∷ others) = (byte ∷ line) ∷ others
 
--- the lines of bytes that 0x0A ends: what is left behind the last of them counts as none
+-- the lines of these bytes that a line feed ended; bytes after the last line feed count as none
 unfoldable pub whole_lines : TextBytes → List TextBytes
 whole_lines [] = []
 whole_lines (byte ∷ bytes) =

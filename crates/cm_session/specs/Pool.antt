@@ -1,5 +1,5 @@
 -- Inside.
--- What workers have in hand, from step to step.
+-- What the workers of a pool have in hand, from step to step.
 use Rattle.std.specs.Prelude.{◌≡◌, ℕ, ◌<◌, ◌≤◌, List, [], ◌∷◌, ◌++◌, All, map, length, Bool}
 use Rattle.std.specs.Prelude.{true, false}
 use Rattle.std.specs.Prelude.{Option, Some, slice_index_or, vec_capacity}
@@ -15,7 +15,7 @@ use Rattle.cm_session.specs.Links.{LinkView}
 use Rattle.cm_session.specs.Serving.{AreWell, EndsLost, IsOfLink, ServesVisits, ServedLink}
 use Rattle.cm_session.specs.Session.{Session}
 
--- a link was put behind others and served there
+-- one link was served by one session, and stands last among the worker's links then
 pub record ServesLink {L : Type 0} (view : L
     → LinkView) (manifests : Manifests) (p q : RealmPass) (g h : GatesView)
     (link : L) (old new : List L) (end : Ended) : Type 0 where
@@ -23,7 +23,8 @@ pub record ServesLink {L : Type 0} (view : L
   pub links : new ≡ old ++ now ∷ []
   pub session : Session manifests p q g h (view link) (view now) end
 
--- a worker served these links so far, by this pass at the door
+-- a worker has served these visits so far: one after another, each for a link that came by this pass
+-- at the door
 pub record HasServed {L : Type 0} (view : L → LinkView) (manifests : Manifests) (visits : List ServedLink)
     (p q : RealmPass) (g h : GatesView) (d e : DoorPass) (links : List L) : Type 0 where
   pub serves : ServesVisits manifests visits p q g h
@@ -32,14 +33,13 @@ pub record HasServed {L : Type 0} (view : L → LinkView) (manifests : Manifests
   pub at_door : IsLater d e
   pub counts : links_of e.mine ≡ length visits
 
--- why a worker stopped: its last session ended for lack of memory, and no other; or none did, and no further
--- accept is due
+-- why a worker stopped: its last session ended for lack of memory (wants), or no further accept is due
 pub record WorkerStops (visits : List ServedLink) (e : DoorPass) (wants : Bool) : Type 0 where
   pub lost : wants ≡ true → EndsLost visits
   pub well : wants ≡ false → AreWell visits
   pub over : wants ≡ false → IsDoorDone (sessions_of e) e.seen
 
--- a worker served links until it stopped
+-- a worker served links until it stopped; lost tells that it stopped for lack of memory
 pub record ServesLinks {L : Type 0} (view : L → LinkView) (manifests : Manifests)
     (p q : RealmPass) (g h : GatesView) (d e : DoorPass) (links : List L) (lost : Bool) : Type 0 where
   pub visits : List ServedLink
@@ -47,8 +47,8 @@ pub record ServesLinks {L : Type 0} (view : L → LinkView) (manifests : Manifes
   pub stops : WorkerStops visits e lost
 
 module _ {G L : Type 0} where
-  -- a worker that did nothing yet, with passes of both locks, of one number, and room for as many links as
-  -- were asked for where it is one of the first so many
+  -- a worker that hasn't served yet: it has a pass of the realm's lock and one of the door's, both of
+  -- its number, and, where it is one of those that serve, room for as many links as were asked for
   pub record IsReadyWorker (realm door : LockView) (workers : ℕ) (worker : Worker G L) : Type 0 where
     pub pass : RealmPass
     pub there : worker.pass ≡ Some pass
@@ -62,8 +62,8 @@ module _ {G L : Type 0} where
     pub well : worker.lost ≡ false
 
 module _ {G L : Type 0} (log_of : G → Option (List GateCall)) (faults_of : G → ℕ) (view : L → LinkView) where
-  -- a worker did its work: these are its visits, of which there are none where it isn't one of the first so
-  -- many
+  -- a worker has done its work with these visits; where it isn't one of those that serve there are
+  -- none
   pub record WorkerWorked (manifests : Manifests) (workers : ℕ) (visits : List ServedLink)
       (old new : Worker G L) : Type 0 where
     pub p : RealmPass
@@ -81,12 +81,12 @@ module _ {G L : Type 0} (log_of : G → Option (List GateCall)) (faults_of : G �
     pub well : new.lost ≡ false → AreWell visits
     pub over : new.lost ≡ false → d.caller < workers → IsDoorDone (sessions_of e) e.seen
 
-  -- a worker did its work, with some visits
+  -- a worker has done its work, with some visits
   pub record DidWork (manifests : Manifests) (workers : ℕ) (old new : Worker G L) : Type 0 where
     pub visits : List ServedLink
     pub worked : WorkerWorked manifests workers visits old new
 
-  -- each of the workers did its work
+  -- each worker of the pool has done its work
   pub record PoolWorked (manifests : Manifests) (workers : ℕ) (old new : List (Worker G L)) : Type 0 where
     pub long : length new ≡ length old
     pub each : (k : ℕ) (d : Worker G L) → k < length old

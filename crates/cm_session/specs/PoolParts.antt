@@ -1,5 +1,6 @@
 -- Inside.
--- Workers made of passes and gates, and taken apart again.
+-- Workers are made of passes and gates, and taken apart into lists again, which are reserved
+-- beforehand.
 use Rattle.std.specs.Prelude.{◌≡◌, ℕ, ◌+◌, ◌<◌, ◌≤◌, List, [], ◌∷◌, ◌++◌, All, Any, map, length, true}
 use Rattle.std.specs.Prelude.{false, Some}
 use Rattle.std.specs.Prelude.{slice_get, vec_capacity}
@@ -11,26 +12,27 @@ use Rattle.cm_session.specs.declared.pool.PoolRoom.{PoolRoom}
 use Rattle.cm_session.specs.declared.workers.Worker.{Worker}
 use Rattle.cm_session.specs.Doorway.{DoorPass}
 
--- the links of one worker
+-- the links that one worker has served, as a vector
 abbrev pub Links : Type 0 → Type 0
 Links L = Vec L Global
 
 module _ {L : Type 0} where
-  -- so many workers have no links, and those that serve have room for as many as were asked for
+  -- n empty vectors of links, one for each worker; those of workers that serve have room for all
+  -- sessions asked for
   pub record HasRooms (n sessions workers : ℕ) (rooms : List (Links L)) : Type 0 where
     pub count : length rooms ≡ n
     pub none : All (λ r. r.items ≡ []) rooms
     pub room : (k : ℕ) (r : Links L) → k < workers → slice_get rooms k ≡ Some r → sessions ≤ vec_capacity r
 
 module _ {G L : Type 0} where
-  -- so many parts more can be put there
+  -- the lists have room for the parts of n more workers
   pub record PoolPartsHaveRoom (n : ℕ) (parts : PoolParts G L) : Type 0 where
     pub passes : length parts.passes.items + n ≤ vec_capacity parts.passes
     pub at_door : length parts.at_door.items + n ≤ vec_capacity parts.at_door
     pub gates : length parts.gates.items + n ≤ vec_capacity parts.gates
     pub links : length parts.links.items + n ≤ vec_capacity parts.links
 
-  -- no parts are there
+  -- the lists of parts are empty
   pub record NoWorkerParts (parts : PoolParts G L) : Type 0 where
     pub passes : parts.passes.items ≡ []
     pub at_door : parts.at_door.items ≡ []
@@ -38,7 +40,8 @@ module _ {G L : Type 0} where
     pub links : parts.links.items ≡ []
     pub lost : parts.lost ≡ false
 
-  -- room for so many workers, for the links of those that serve, and for all that comes back
+  -- all the memory that n workers need was reserved: for the workers, for the links of those that
+  -- serve, for the parts, and for the links that come back
   pub record PoolHasRoom (n sessions workers : ℕ) (room : PoolRoom G L) : Type 0 where
     pub no_workers : room.pool.items ≡ []
     pub pool : n ≤ vec_capacity room.pool
@@ -48,14 +51,15 @@ module _ {G L : Type 0} where
     pub no_links : room.back.items ≡ []
     pub back : sessions ≤ vec_capacity room.back
 
-  -- a worker that has its passes
+  -- a worker that holds its pass of the realm and its pass at the door; it has none of them only
+  -- within a turn
   pub record HasPasses (worker : Worker G L) : Type 0 where
     pub pass : RealmPass
     pub there : worker.pass ≡ Some pass
     pub at_door : DoorPass
     pub there_too : worker.at_door ≡ Some at_door
 
-  -- the parts of one worker are put behind others
+  -- the parts of one worker are added to the lists
   pub record PutsPoolParts (worker : Worker G L) (old new : PoolParts G L) : Type 0 where
     pub pass : RealmPass
     pub there : worker.pass ≡ Some pass

@@ -21,7 +21,7 @@ pub record ServedLink : Type 0 where
   pub now : LinkView
   pub ended : Ended
 
--- the session of the link ended for lack of memory
+-- the session of this link ended for lack of memory
 abbrev pub IsLost : ServedLink → Type 0
 IsLost v = v.ended ≡ ended.Memory
 
@@ -37,24 +37,24 @@ pub record EndsLost (visits : List ServedLink) : Type 0 where
   pub well : AreWell before
   pub lost : IsLost last
 
--- behind a session that ended for lack of memory there is none
+-- a worker serves no further link once a session of its own has ended for lack of memory
 abbrev pub StopsAtLoss : List ServedLink → Type 0
 StopsAtLoss visits = AreWell visits ⊎ EndsLost visits
 
--- the link was new when it came, in its bytes, its faults and its order
+-- nothing had been read from the link or written to it when it came
 abbrev pub IsNewLink : LinkView → Type 0
 IsNewLink l = IsFreshLink l.source l.sink l.order
 
--- a link was seen as this
+-- some link is seen as this by contracts
 abbrev pub IsOfLink : {L : Type 0} → (L → LinkView) → LinkView → Type 0
 IsOfLink view seen = (link : _) × (view link ≡ seen)
 
--- a link that was new was served by one session
+-- one worker served this link, which was new, by one session, from this pass and these gates to those
 pub record Visits (manifests : Manifests) (v : ServedLink) (p q : RealmPass) (g h : GatesView) : Type 0 where
   pub new : IsNewLink v.was
   pub session : Session manifests p q g h v.was v.now v.ended
 
--- one visit after another, each from where the one before it left the pass and the gates
+-- a worker's visits, one after another, each from where the one before it left the pass and the gates
 pub data ServesVisits (manifests : Manifests) : List ServedLink → RealmPass → RealmPass → GatesView
     → GatesView → Type 0 where
   none_came : {p : RealmPass} {g : GatesView} → ServesVisits manifests [] p p g g
@@ -63,18 +63,18 @@ pub data ServesVisits (manifests : Manifests) : List ServedLink → RealmPass �
       → ServesVisits manifests others q r h k
       → ServesVisits manifests (v ∷ others) p r g k
 
--- the links of the visits of the workers from k on, worker by worker
+-- the links of these visits as they are handed back, from worker k on, worker by worker
 abbrev pub worker_by_worker : ℕ → List (List ServedLink) → List (Back LinkView)
 worker_by_worker k [] = []
 worker_by_worker k (visits ∷ others) =
     map (λ v. record { worker = k; link = v.now }) visits ++ worker_by_worker (k + 1) others
 
--- what a link that comes back is seen as
+-- a link that is handed back, as contracts see it
 abbrev pub back_view : {L : Type 0} → (L → LinkView) → Back L → Back LinkView
 back_view view b = record { worker = b.worker; link = view b.link }
 
 module _ {D L G : Type 0} where
-  -- nothing was done, for lack of memory
+  -- nothing was served, for lack of memory: all that was given comes back as it was
   pub record IsUnserved (passes : List RealmPass) (gates : List G) (door : D) (back : Served D L G)
       : Type 0 where
     pub same_passes : back.passes ≡ passes
@@ -84,9 +84,9 @@ module _ {D L G : Type 0} where
     pub memory : back.cause ≡ cause.Memory
 
 module _ {G L : Type 0} (log_of : G → Option (List GateCall)) (faults_of : G → ℕ) (view : L → LinkView) where
-  -- each worker served its links one after another with its own pass and gates, and none behind a session
-  -- that ended for lack of memory; none of the others has any; and one ended so exactly where that is the
-  -- cause
+  -- each worker served its links one after another with its own pass and gates, and stopped at a
+  -- session that ended for lack of memory; those that don't serve have none; and lack of memory is the
+  -- cause exactly where a session ended so
   pub record ServesAll {D : Type 0} (manifests : Manifests) (workers : ℕ) (passes : List RealmPass)
       (gates : List G)
       (back : Served D L G) : Type 0 where
@@ -103,7 +103,7 @@ module _ {G L : Type 0} (log_of : G → Option (List GateCall)) (faults_of : G �
     pub well : back.cause ≢ cause.Memory → All AreWell visits
     pub lost : back.cause ≡ cause.Memory → Any EndsLost visits
 
-  -- links were served, or nothing was done
+  -- the door's links were served, or nothing was done for lack of memory
   abbrev pub ServedOrNot : {D : Type 0} → Manifests → ℕ → List RealmPass → List G → D → Served D L G → Type 0
   ServedOrNot manifests workers passes gates door back =
       ServesAll manifests workers passes gates back ⊎ IsUnserved passes gates door back

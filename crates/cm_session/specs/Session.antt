@@ -1,5 +1,5 @@
 -- Promised.
--- One session over a link, by its end.
+-- One session over a link, by how it ended.
 use Rattle.std.specs.Prelude.{◌≡◌, ◌≢◌, ◌⊎◌, ◌<◌, ◌≤◌, ℕ, List, [], ◌∷◌, ◌++◌, All, length, map, take, codes}
 use Rattle.std.specs.Prelude.{Option}
 use Rattle.std.specs.List.{AllZip}
@@ -24,15 +24,16 @@ use Rattle.cm_session.specs.LineOutcome.{LineOutcome, ReadsLine, reply_line, rep
 abbrev pub quit : TextBytes
 quit = codes "quit"
 
--- the most lines of a session
+-- a session serves at most so many lines
 abbrev pub most_lines : ℕ
 most_lines = 1048576
 
--- these are first lines of the bytes, each of which a line feed ended; or nothing is left behind the bytes
+-- a line feed ended each of these first lines of the bytes; or the link is at its end, where the last
+-- line needs none
 abbrev pub AreEnded : TextBytes → List TextBytes → Option TextBytes → Type 0
 AreEnded bytes first left = BeginsWithBytes (whole_lines bytes) first ⊎ IsAtEnd left
 
--- which lines of these bytes were served, by the end of the session
+-- which lines of the bytes that came were served, by how the session ended
 abbrev pub Served : Ended → TextBytes → List TextBytes → Option TextBytes → Type 0
 Served ended.End bytes done left = (lines bytes ≡ done) × (length done < most_lines) × IsAtEnd left
 Served ended.Quit bytes done left =
@@ -44,7 +45,7 @@ Served ended.ReadFault bytes done left = BeginsWithBytes (lines bytes) done
 Served ended.WriteFault bytes done left = BeginsWithBytes (lines bytes) done
 Served ended.Memory bytes done left = BeginsWithBytes (lines bytes) done
 
--- the replies to all lines but the last were written whole, and of that one a prefix
+-- the replies to all lines but the last were written whole, and a prefix of that to the last
 pub record BreaksOff (old new : Option TextBytes) (told : List LineOutcome) : Type 0 where
   pub before : List LineOutcome
   pub last : LineOutcome
@@ -56,18 +57,18 @@ pub record BreaksOff (old new : Option TextBytes) (told : List LineOutcome) : Ty
 abbrev pub WrotePrefix : Option TextBytes → Option TextBytes → List LineOutcome → Type 0
 WrotePrefix old new told = Appends old new (replies told) ⊎ BreaksOff old new told
 
--- what was written of the replies, by the end of the session
+-- what was written of the replies, by how the session ended
 abbrev pub Wrote : Ended → AsSink → AsSink → List LineOutcome → Type 0
 Wrote ended.WriteFault old new told = BreaksOff old.written new.written told × Rose old.faults new.faults
 Wrote ended.Memory old new told = WrotePrefix old.written new.written told
 Wrote end old new told = Appends old.written new.written (replies told)
 
--- the pass and the gates are as they were; or the pass is the same one, its entries are its caller's in what
--- it has seen, and its new entries are whole calls, with the work of its gates
+-- pass and gates are as they were; or the pass has only grown by whole calls of its caller, with the
+-- gates' work for them
 abbrev pub KeepsOrNot : Manifests → RealmPass → RealmPass → GatesView → GatesView → Type 0
 KeepsOrNot manifests p q g h = ((q ≡ p) × (h ≡ g)) ⊎ KeepsPass manifests p q g h
 
--- no line but the last of these was answered for lack of memory: a session ends with such an answer
+-- no line but the last was answered for lack of memory: a session ends with such an answer
 pub record OutOfMemoryLast (told : List LineOutcome) : Type 0 where
   pub before : List LineOutcome
   pub last : List LineOutcome
@@ -75,8 +76,8 @@ pub record OutOfMemoryLast (told : List LineOutcome) : Type 0 where
   pub one : length last ≤ 1
   pub had_memory : All HadMemory before
 
--- the lines of a link were served, by what the pass, the gates and the link were and are; behind that came
--- the moves `closing`, and no bytes
+-- the lines of a link were served: what became of the pass, the gates and the link by that. After it
+-- the link made the moves `closing`, and gave or took no bytes in them
 pub record SessionClosedBy (closing : List Move) (manifests : Manifests) (p q : RealmPass) (g h : GatesView)
     (old new : LinkView) (end : Ended) : Type 0 where
   pub keeps : KeepsOrNot manifests p q g h
@@ -100,19 +101,21 @@ pub record SessionClosedBy (closing : List Move) (manifests : Manifests) (p q : 
   pub out_of_memory_last : OutOfMemoryLast told
   pub read_fault : end ≡ ended.ReadFault → Rose old.source.faults new.source.faults
   -- the order, where the link tells it: reads, which gave these bytes, and writes, so that each reply was
-  -- written before it was read on behind its line; and behind them the closing alone
+  -- written before it was read on after its line; and after them the closing alone
   pub moves : List Move
   pub in_step : InStep (map reply_line told) moves
   pub reads_are : given_in moves ≡ bytes
   pub came : MovesCame old.order new.order (moves ++ closing)
 
--- a session over a link: `InStep` has reads and writes alone, so it was hung up on once, behind all of them
+-- a session over a link, from its first byte to hanging up, which happens once and after all reads and
+-- writes
 abbrev pub Session : Manifests → RealmPass → RealmPass → GatesView → GatesView → LinkView → LinkView → Ended
     → Type 0
 Session manifests p q g h old new end = SessionClosedBy (hung_up ∷ []) manifests p q g h old new end
 
 module _ {G L : Type 0} (log_of : G → Option (List GateCall)) (faults_of : G → ℕ) (view : L → LinkView) where
-  -- the lines of this link were served, with these gates, and `closing` came behind that
+  -- the lines of a link were served, and the moves `closing` came after them, said of links and gates
+  -- themselves
   abbrev pub SessionWith : List Move → Manifests → RealmPass → RealmPass → G → G → L → L → Ended → Type 0
   SessionWith closing manifests p q gates₀ gates₁ old new end =
       SessionClosedBy closing manifests p q (gates_view log_of faults_of gates₀)

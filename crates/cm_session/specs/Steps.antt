@@ -30,7 +30,8 @@ use Rattle.cm_session.specs.LineOutcome.{LineOutcome, performed, bad, too_long, 
 use Rattle.cm_session.specs.LineOutcome.{reply_line, HadMemory}
 use Rattle.cm_session.specs.Session.{quit, KeepsOrNot}
 
--- what was written of one reply, and whether the session ends for it; it goes on only without lack of memory
+-- what was written of one reply, and whether the session ends for it: it goes on only where all was
+-- written and NoWant, that memory sufficed, holds
 abbrev pub LineWrote : Option Ended → Side → Side → TextBytes → Type 0 → Type 0
 LineWrote None old new text NoWant = Appends old.written new.written text × (new.faults ≡ old.faults) × NoWant
 LineWrote (Some ended.WriteFault) old new text NoWant =
@@ -41,20 +42,21 @@ LineWrote (Some ended.Quit) old new text NoWant = ⊥
 LineWrote (Some ended.ReadFault) old new text NoWant = ⊥
 LineWrote (Some ended.LinesSpent) old new text NoWant = ⊥
 
--- of a reply these pieces were written, and nothing else came; they are all of it where the session goes on
+-- only these pieces of a reply were written, and nothing was read between; they are all of it where
+-- the session goes on
 pub record RepliesInOrder (end : Option Ended) (old new : Option (List Move))
     (text : TextBytes) : Type 0 where
   pub pieces : List TextBytes
   pub came : MovesCame old new (map wrote_move pieces)
   pub whole : end ≡ None → joined pieces ≡ text
 
--- what a caller does for a line: it performs its command, or nothing
+-- what a caller does for a line in the history: it performs the line's command, or nothing
 abbrev pub DoesLine : Frame → ℕ → LineOutcome → List Entry → List Entry → Type 0
 DoesLine f c (performed d) h₀ h₁ = RunsOrLoses f c d.command h₀ h₁ d.result
 DoesLine f c (bad at) h₀ h₁ = h₁ ≡ h₀
 DoesLine f c too_long h₀ h₁ = h₁ ≡ h₀
 
--- a line was served, with its reply
+-- one line was served: its command was performed, and its reply written
 pub record ServedLine (manifests : Manifests) (p q : RealmPass) (g h : GatesView) (line : TextBytes)
     (old new : Side)
     (end : Option Ended) : Type 0 where
@@ -65,7 +67,7 @@ pub record ServedLine (manifests : Manifests) (p q : RealmPass) (g h : GatesView
   pub wrote : LineWrote end old new (reply_line told) (HadMemory told)
   pub ordered : RepliesInOrder end old.order new.order (reply_line told)
 
--- a command was performed, with its reply; its answer may be lost for lack of memory
+-- one command was performed, and its reply written; its answer may be lost where memory ran out
 pub record ServedCommand (manifests : Manifests) (p q : RealmPass) (g h : GatesView) (command : Command)
     (old new : Side) (end : Option Ended) : Type 0 where
   pub answer : Result Answer Refusal
@@ -74,19 +76,19 @@ pub record ServedCommand (manifests : Manifests) (p q : RealmPass) (g h : GatesV
   pub wrote : LineWrote end old new (line (reply_text command answer)) (answer ≢ Err refusal.Memory)
   pub ordered : RepliesInOrder end old.order new.order (line (reply_text command answer))
 
--- nothing was performed or written
+-- nothing was performed, and nothing was written
 pub record IsSilent (p q : RealmPass) (g h : GatesView) (old new : Side) : Type 0 where
   pub pass : q ≡ p
   pub gates : h ≡ g
   pub sink : new ≡ old
 
--- a line was served, or the session ends before, since memory ran out
+-- a line was served, or the session ends before it is, since memory ran out
 abbrev pub ServedOrNot : Manifests → RealmPass → RealmPass → GatesView → GatesView → TextBytes → Side → Side
     → Option Ended → Type 0
 ServedOrNot manifests p q g h line old new end =
     ServedLine manifests p q g h line old new end ⊎ ((end ≡ Some ended.Memory) × IsSilent p q g h old new)
 
--- the next line was taken and served
+-- the next line was taken from the reader and served
 pub record LineDone (manifests : Manifests) (p q : RealmPass) (g h : GatesView) (taken : TextBytes)
     (reader : Reader)
     (old new : Side) (end : Option Ended) : Type 0 where
@@ -95,19 +97,19 @@ pub record LineDone (manifests : Manifests) (p q : RealmPass) (g h : GatesView) 
   pub other : line ≢ quit
   pub served : ServedLine manifests p q g h line old new end
 
--- what was made of the bytes `taken`: the link was as `old` before they were read, its order was `mid` behind
+-- what was made of the bytes `taken`: the link was as `old` before they were read, its order was `mid` after
 -- the reads, and it is as `new` now
 module _ (manifests : Manifests) (p q : RealmPass) (g h : GatesView) (taken : TextBytes) (reader : Reader)
     (old : LinkView) (mid : Option (List Move)) (new : LinkView) where
-  -- one line was taken and served
+  -- one line was taken from these bytes and served
   abbrev pub LineIsDone : Option Ended → Type 0
   LineIsDone end = LineDone manifests p q g h taken reader (side_with old mid) (side_of new) end
 
-  -- nothing was performed or written behind the reads
+  -- after the bytes were read nothing was performed or written
   abbrev pub WasSilent : Type 0
   WasSilent = IsSilent p q g h (side_with old mid) (side_of new)
 
-  -- one line was taken and served, or the session ends
+  -- what one step of a session did, by how it ends: with no end, one line was taken and served
   abbrev pub StepBy : Option Ended → Type 0
   StepBy None = LineIsDone None
   StepBy (Some ended.WriteFault) = LineIsDone (Some ended.WriteFault)
@@ -117,14 +119,14 @@ module _ (manifests : Manifests) (p q : RealmPass) (g h : GatesView) (taken : Te
   StepBy (Some ended.ReadFault) = IsUnbroken taken × Rose old.source.faults new.source.faults × WasSilent
   StepBy (Some ended.LinesSpent) = ⊥
 
--- one call of the line reader, and what was made of what it told
+-- one step of a session: the line reader was called once, and what it told was served
 pub record Stepped (manifests : Manifests) (p q : RealmPass) (g h : GatesView) (before after : Reader)
     (old new : LinkView) (end : Option Ended) : Type 0 where
   pub given : TextBytes
   pub gave : Moves old.source new.source given
   pub later : old.source.faults ≤ new.source.faults
   pub once : EndsOnce before after old.source new.source given
-  -- the order behind the reads: no read came while a line ended in what was there, and none behind the end
+  -- the order after the reads: no read came while a line ended in what was there, and none after the end
   pub mid : Option (List Move)
   pub pulled : Pulled old.order mid before.held given
   pub still : before.over ≡ true → mid ≡ old.order

@@ -93,8 +93,10 @@ impl<D: Door> Model for Doorway<D> {
 }
 
 impl<D: Door> Storied for Doorway<D> {
+    /// An entry for each accept, with the worker that made it.
     type Entry = Accepted;
 
+    /// How the door was opened.
     type Frame = Opening;
 
     ghost story = { λ s. s.entries };
@@ -104,7 +106,7 @@ impl<D: Door> Storied for Doorway<D> {
     ghost by = { λ e. e.worker };
 }
 
-/// What the accept came to.
+/// What the accept came to, for its entry, without the link itself.
 fn came_of<L>(accept: &Accept<L>) -> Accepting
     ensures { result ≡ came_of accept.now }
 {

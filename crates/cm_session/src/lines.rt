@@ -66,7 +66,7 @@ fn refusal_line(alloc: Global, at: u32) -> Result<Text, Memory>
     Ok(text)
 }
 
-/// Writes a reply. The result says whether the session ends for it.
+/// Writes a reply. The result says why the session ends for it, if it does.
 fn put_reply<R: Threads + Wait + Sync, L: Link>(
     rt: &R,
     link: &mut L,
@@ -88,7 +88,7 @@ fn put_reply<R: Threads + Wait + Sync, L: Link>(
     }
 }
 
-/// Answers a line that is no command. The result says whether the session ends for it.
+/// Answers a line that is no command. The result says why the session ends for it, if it does.
 fn refuse<R: Threads + Wait + Sync, L: Link>(
     rt: &R,
     alloc: Global,
@@ -107,7 +107,7 @@ fn refuse<R: Threads + Wait + Sync, L: Link>(
     }
 }
 
-/// Performs a command and writes its reply. The result says whether the session ends for it.
+/// Performs a command and writes its reply. The result says why the session ends for it, if it does.
 fn serve_command<R: Threads + Wait + Sync, G: Gates, L: Link>(
     rt: &R,
     alloc: Global,
@@ -133,7 +133,7 @@ fn serve_command<R: Threads + Wait + Sync, G: Gates, L: Link>(
     (pass, ended)
 }
 
-/// Serves a line that doesn't end the session. The result says whether it ends all the same.
+/// Serves a line that isn't `quit`. The result says why the session ends for it, if it does.
 fn serve_line<R: Threads + Wait + Sync, G: Gates, L: Link>(
     rt: &R,
     alloc: Global,
@@ -164,7 +164,7 @@ fn serve_line<R: Threads + Wait + Sync, G: Gates, L: Link>(
     }
 }
 
-/// Takes the next line and serves it. The result says whether the session ends with it.
+/// Takes the next line and serves it. The result says why the session ends with it, if it does.
 fn serve_next<R: Threads + Wait + Sync, G: Gates, L: Link>(
     rt: &R,
     alloc: Global,
@@ -197,7 +197,7 @@ fn serve_next<R: Threads + Wait + Sync, G: Gates, L: Link>(
     }
 }
 
-/// Serves line after line.
+/// Serves line after line, until the session ends; the answer says why it ended.
 fn serve_lines<R: Threads + Wait + Sync, G: Gates, L: Link>(
     rt: &R,
     alloc: Global,

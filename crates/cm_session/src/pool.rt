@@ -140,7 +140,7 @@ pub(crate) fn make_pool<G: Drop, L: Drop>(
     pool
 }
 
-/// Takes workers apart.
+/// Takes workers apart into lists of their parts, for which there is room.
 pub(crate) fn take_apart<G: Drop, L: Drop>(
     pool: Vec<Worker<G, L>>,
     parts: PoolParts<G, L>,
@@ -157,7 +157,7 @@ pub(crate) fn take_apart<G: Drop, L: Drop>(
     parts
 }
 
-/// Puts the parts of a worker behind those of others.
+/// Adds the parts of a worker to the lists, for which there is room.
 fn put_parts<G: Drop, L: Drop>(worker: Worker<G, L>, parts: &mut PoolParts<G, L>)
     requires passes { HasPasses worker }
     requires room { PoolPartsHaveRoom 1 parts.old }

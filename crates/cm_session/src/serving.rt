@@ -139,7 +139,7 @@ fn open_door<D: Door>(
     }
 }
 
-/// Puts the links of one worker behind those of others.
+/// Adds the links of one worker, with its number, to those that are handed back.
 fn put_links<L: Drop>(worker: u32, links: Vec<L>, back: &mut Vec<Back<L>>)
     requires room { length back.old.items + length links.items ≤ vec_capacity back.old }
     ensures items { back.new.items ≡ back.old.items ++ backs_of worker links.items }

@@ -55,7 +55,7 @@ fn take_turn<R: Threads + Wait + Sync, D: Door>(
     (door.leave(held), turned)
 }
 
-/// Puts a link behind those that came before it, and serves it there.
+/// Puts a link among the worker's links, and serves it there by a session.
 fn serve_link<R: Threads + Wait + Sync, G: Gates, L: Link>(
     rt: &R,
     alloc: Global,

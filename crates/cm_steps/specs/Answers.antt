@@ -1,5 +1,7 @@
 -- Inside.
--- What the answers to a begin, to an exit, and to the steps of creations and shutdowns say.
+-- What the deciders of a realm answer to a begin, an exit, and the steps of creations and shutdowns.
+-- An answer is quiet where it changes nothing but the count of entries, and busy where an action has
+-- to be waited for.
 use Rattle.std.specs.Prelude.{◌≡◌, ℕ, List, Bool, false, Some, None, map, IsTrue}
 use Rattle.cm_decl.specs.declared.rows.Give.{Give}
 use Rattle.cm_world.specs.declared.row.Row.{Row}
@@ -36,7 +38,8 @@ use Rattle.cm_steps.specs.declared.replies.purging.PurgeAnswer.TheVariants as pu
 use Rattle.cm_steps.specs.declared.replies.picking.PickAnswer.{PickAnswer}
 use Rattle.cm_steps.specs.declared.replies.picking.PickAnswer.TheVariants as pick
 
--- an answer to a begin: no reply while the action is pending, or the reply of the definition
+-- the answer to a begin is right for these rows: busy with the action that is pending there, or the
+-- defined reply
 abbrev pub AnswersBegin : List Row → ℕ → ActKind → ℕ → BeginAnswer → Type 0
 AnswersBegin rows next kind i (begin.Busy a) = (begin_reply rows next kind i ≡ None) × IsPendingAs rows i a
 AnswersBegin rows next kind i (begin.Quiet r) =
@@ -44,20 +47,21 @@ AnswersBegin rows next kind i (begin.Quiet r) =
 AnswersBegin rows next kind i (begin.Joins a) = begin_reply rows next kind i ≡ Some (reply.Joined a)
 AnswersBegin rows next kind i (begin.Begins work) = begin_reply rows next kind i ≡ Some (reply.Begun work)
 
--- the same where no action is pending at the row
+-- the answer to a begin is right for a row at which no action is pending
 abbrev pub AnswersIdle : List Row → ℕ → ActKind → Row → BeginAnswer → Type 0
 AnswersIdle rows next kind r (begin.Quiet s) =
     (begin_idle rows next kind r ≡ s) × (moves (Begin kind r.inc) s ≡ false)
 AnswersIdle rows next kind r (begin.Begins work) = begin_idle rows next kind r ≡ reply.Begun work
 AnswersIdle rows next kind r _ = ⊥
 
--- an answer to an exit: no reply while an action is pending, or the reply of the definition
+-- the answer to an exit is right for these rows: busy with the action that is pending there, or the
+-- defined reply
 abbrev pub AnswersExit : List Row → ℕ → ExitAnswer → Type 0
 AnswersExit rows i (exit.Busy a) = (exit_reply rows i ≡ None) × IsPendingAs rows i a
 AnswersExit rows i (exit.Quiet r) = (exit_reply rows i ≡ Some r) × (moves (Exited i) r ≡ false)
 AnswersExit rows i (exit.Leaves m) = exit_reply rows i ≡ Some (reply.Left m)
 
--- what a begin comes to in a world: it waits for a pending action, or has the reply of the definition
+-- what a begin comes to in a world: it waits for a pending action, or gets the defined reply
 abbrev pub BeginsOrWaits : World → ActKind → ℕ → BeginAnswer → Type 0
 BeginsOrWaits w kind i (begin.Busy a) = WaitsToBegin w kind i a
 BeginsOrWaits w kind i (begin.Quiet r) =
@@ -65,7 +69,7 @@ BeginsOrWaits w kind i (begin.Quiet r) =
 BeginsOrWaits w kind i (begin.Joins a) = begin_reply w.rows w.next_action kind i ≡ Some (reply.Joined a)
 BeginsOrWaits w kind i (begin.Begins work) = begin_reply w.rows w.next_action kind i ≡ Some (reply.Begun work)
 
--- and an exit
+-- what an exit comes to in a world: it waits for a pending action, or gets the defined reply
 abbrev pub ExitsBy : World → ℕ → ExitAnswer → Type 0
 ExitsBy w i (exit.Busy a) = WaitsToExit w i a
 ExitsBy w i (exit.Quiet r) = (exit_reply w.rows i ≡ Some r) × (moves (Exited i) r ≡ false)
@@ -73,18 +77,18 @@ ExitsBy w i (exit.Leaves m) = exit_reply w.rows i ≡ Some (reply.Left m)
 
 -- ---- creations
 
--- a reply to a create that changes nothing
+-- a reply to a create that changes nothing but the count of entries
 abbrev pub IsQuietCreate : Reply → Type 0
 IsQuietCreate r =
     (p : ℕ) (coll name url : List ℕ) (gives : List Give) → moves (Create p coll name url gives) r ≡ false
 
--- what a create comes to, by whether the child may be created
+-- the answer to a create, by whether the child may be created
 abbrev pub IsAnswerOf : MayCreate → CreateAnswer → Type 0
 IsAnswerOf may create.Creates = may ≡ Yes
 IsAnswerOf may (create.Quiet r) = ((next : ℕ) → create_reply next may ≡ r) × IsQuietCreate r
 
--- what a create comes to in a tree: a child with the next incarnation, whose row it can take, or another
--- reply of the definition
+-- what a create comes to in a tree: a child with the next incarnation, for whose row there is a place,
+-- or a reply that changes nothing
 abbrev pub CreatesBy : ℕ → List Row → ℕ → ℕ → List ℕ → List ℕ → List Give → CreateAnswer → Type 0
 CreatesBy limit rows next p coll name gives create.Creates =
     IsCreateReply limit rows next p coll name gives (reply.Created next) × CanTakeChild rows p coll name
@@ -93,31 +97,34 @@ CreatesBy limit rows next p coll name gives (create.Quiet r) =
 
 -- ---- marks and purges
 
--- an answer to a mark: the reply of the definition, which changes something where it is Marked
+-- the answer to a mark is right for these rows: it marks something, or gets a reply that changes
+-- nothing
 abbrev pub AnswersMark : List Row → Bool → ℕ → MarkAnswer → Type 0
 AnswersMark rows doom i mark.Marks = mark_reply rows doom i ≡ reply.Marked
 AnswersMark rows doom i (mark.Quiet r) = (mark_reply rows doom i ≡ r) × (moves (Mark doom i) r ≡ false)
 
--- an answer to a purge: whether the row lives, and then what is removed
+-- the answer to a purge is right for these rows: the row went before, or these are removed with it
 abbrev pub AnswersPurge : List Row → ℕ → PurgeAnswer → Type 0
 AnswersPurge rows i purge.Before = is_live rows i ≡ false
 AnswersPurge rows i (purge.Removes lost) =
     IsTrue (is_live rows i) × (lost ≡ map (lost_of rows) (subtree rows i))
 
--- a list of what a reap names: that of the definition
+-- the list that answers a reap is the defined one
 abbrev pub IsReaped : List Row → ℕ → List ℕ → Type 0
 IsReaped rows i incs = incs ≡ reaped rows i
 
 -- ---- picks
 
--- an answer to a pick: what is waited for, or the reply of the definition
+-- the answer to a pick is right for these rows: busy with the action that blocks the shutdown, or a
+-- reply that it may get
 abbrev pub AnswersPick : List Row → ℕ → ℕ → PickAnswer → Type 0
 AnswersPick rows next target (pick.Busy a) = PickWaitsFor rows target a
 AnswersPick rows next target pick.Done = IsTrue (is_subtree_shut rows target)
 AnswersPick rows next target (pick.Shuts i) = PicksOff rows target i
 AnswersPick rows next target (pick.Stops work) = PicksOn rows next target work
 
--- what a pick comes to in a world
+-- what a pick comes to in a world: it waits for an action that blocks the shutdown, or gets a reply
+-- that it may get
 abbrev pub PicksOrWaits : World → ℕ → PickAnswer → Type 0
 PicksOrWaits w target (pick.Busy a) = WaitsToPick w target a
 PicksOrWaits w target pick.Done = IsTrue (is_subtree_shut w.rows target)

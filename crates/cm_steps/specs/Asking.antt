@@ -1,5 +1,5 @@
 -- Inside.
--- Who asks for a use of an instance, and what is answered.
+-- Who asks for the route of a use, or opens it, and how the answers that are kept serve both.
 use Rattle.std.specs.Prelude.{◌≡◌, ℕ, List, Bool, not, ◌&&◌, Option, Some}
 use Rattle.cm_world.specs.declared.event.Event.{Event}
 use Rattle.cm_world.specs.declared.event.Event.TheVariants as event
@@ -16,26 +16,27 @@ use Rattle.cm_cache.specs.AnswersInside.{kept_at}
 use Rattle.cm_steps.specs.declared.asking.Asking.{Asking}
 use Rattle.cm_steps.specs.declared.asking.Asking.TheVariants as asking
 
--- a row that isn't gone and is resolved
+-- whether a row isn't gone and is resolved
 abbrev pub is_ready : List Row → ℕ → Bool
 is_ready rows i = not (is_gone rows i) && is_resolved rows i
 
--- whether an answer is what the walk from a use of row i comes to: for an opening it has to be on, too
+-- whether who asks gets what the walk from a use of row i comes to; to open it, the row has to be on
+-- too
 abbrev pub may_ask : Asking → List Row → ℕ → Bool
 may_ask asking.Route rows i = is_ready rows i
 may_ask asking.Opening rows i = is_ready rows i && is_on rows i
 
--- what refuses one who asks
+-- the reply that refuses who asks, before any walk
 abbrev pub refusal_of : Asking → List Row → ℕ → Option Reply
 refusal_of asking.Route rows i = unready rows i
 refusal_of asking.Opening rows i = unopened rows i
 
--- the event by which the history keeps it
+-- the event that is recorded for who asks
 abbrev pub event_of : Asking → ℕ → List ℕ → Event
 event_of asking.Route i path = event.Route i path
 event_of asking.Opening i path = event.OpenUse i path
 
--- what is made of the walk
+-- the reply to who asks, by what the walk came to
 abbrev pub reply_of : Asking → List Row → Walked → Reply
 reply_of asking.Route rows v = routed rows v
 reply_of asking.Opening rows v = opened rows v

@@ -8,19 +8,19 @@ use Rattle.cm_decl.specs.Graph.{static_name}
 use Rattle.cm_world.specs.declared.row.Row.{Row}
 use Rattle.cm_world.specs.Rows.{row_of, child_of}
 
--- of these declared children of row i those that start with it
+-- the incarnations of those of these declared children of row i that start together with it
 abbrev pub eager_kids : List Row → ℕ → List Child → List ℕ
 eager_kids rows i kids = filter_map (λ k. child_of rows i (static_name k.name)) (filter (λ k. k.eager) kids)
 
--- by the declaration, if there is one
+-- the children that start together with row i, by its declaration; none where it isn't resolved
 abbrev pub eager_by : List Row → ℕ → Option Decl → List ℕ
 eager_by rows i None = []
 eager_by rows i (Some d) = eager_kids rows i d.children
 
--- a declared child of row i, if it starts with it
+-- the incarnation of a declared child of row i, if it starts together with it
 abbrev pub eager_child : List Row → ℕ → Child → Option ℕ
 eager_child rows i k = if k.eager then child_of rows i (static_name k.name) else None
 
--- the absolute URL of a parent, if there is one and it has one
+-- the absolute URL of a row's parent, if it has a parent and that is resolved
 abbrev pub above_url : List Row → Option ℕ → Option (List ℕ)
 above_url rows parent = option_and_then (λ p. option_and_then (λ q. q.absolute) (row_of rows p)) parent

@@ -1,5 +1,5 @@
 -- Inside.
--- How a realm keeps its history and its tree.
+-- How a realm keeps its history and its tree, and what always holds of the two.
 use Rattle.std.specs.Prelude.{◌≡◌, ◌+◌, ◌≤◌, length, count_by}
 use Rattle.cm_world.specs.World.{World, owed}
 use Rattle.cm_laws.specs.Story.{Story, world_of, IsLegal}
@@ -9,11 +9,11 @@ use Rattle.cm_order.specs.Plans.{IsPlan}
 use Rattle.cm_steps.specs.Tasks.{is_open_resolve}
 use Rattle.cm_steps.specs.declared.realm.Realm.TheInside.{Inside}
 
--- the story that the fields keep
+-- the history that a realm's fields keep
 abbrev pub story_of : Inside → Story
 story_of a = record { frame = a.frame; entries = a.records.book.entries }
 
--- the tree that the fields are; the next action has the number behind the last
+-- the tree that a realm's fields keep; actions are numbered from 1
 abbrev pub world_in : Inside → World
 world_in a = record {
   frame = a.frame;
@@ -30,9 +30,9 @@ pub record LeavesTree (s : Story) (w : World) : Type 0 where
   pub legal : IsLegal s
   pub world : world_of s ≡ w
 
--- the fields are the tree that the book leaves; open resolves are counted, and room is kept for each of them
--- and for the entries that are owed; the keeper's answers are those of the book's history; what is known of
--- ways down holds in this tree
+-- what always holds of a realm's fields: they are the tree that its history leaves; memory is kept for
+-- each open resolve and for the entries that are owed; the answers that are kept, and what is known of
+-- ways down, are right for this tree
 pub record IsRealmInvariant (a : Inside) : Type 0 where
   pub stands : LeavesTree (story_of a) (world_in a)
   pub owes : a.records.book.reserved ≡ owed a.acts.items a.joins.items

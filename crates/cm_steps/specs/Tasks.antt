@@ -9,18 +9,19 @@ use Rattle.cm_world.specs.Rows.{row_of}
 use Rattle.cm_world.specs.World.{is_open}
 use Rattle.cm_world.specs.Begin.{same_act}
 
--- a resolve that hasn't ended
+-- whether an action is a resolve that hasn't ended
 abbrev pub is_open_resolve : Act → Bool
 is_open_resolve x = same_act x.kind Resolve && is_open x
 
--- a row at which an action may begin: none is pending, and one that is to be resolved has no declaration yet
+-- an action of this kind may begin at this row: none is pending there, and one that is to be resolved
+-- isn't yet
 pub record IsIdleAt (rows : List Row) (kind : ActKind) (i : ℕ) : Type 0 where
   pub row : Row
   pub lives : row_of rows i ≡ Some row
   pub idle : row.pending ≡ None
   pub unresolved : kind ≡ Resolve → row.decl ≡ None
 
--- an action of some kind is pending at a row
+-- action a, of some kind, is pending at row i
 pub record IsPendingAs (rows : List Row) (i a : ℕ) : Type 0 where
   pub row : Row
   pub lives : row_of rows i ≡ Some row

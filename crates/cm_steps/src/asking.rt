@@ -48,7 +48,7 @@ pub(crate) fn asks<V: View>(view: &V, asking: Asking, inc: u64) -> bool
     }
 }
 
-/// How the history keeps what was asked.
+/// The event by which the history records what was asked.
 pub(crate) fn event_of(asking: Asking, inc: u64, path: CapPath) -> Event
     ensures { result ≡ spec.event_of asking inc path }
 {
@@ -58,7 +58,7 @@ pub(crate) fn event_of(asking: Asking, inc: u64, path: CapPath) -> Event
     }
 }
 
-/// What is made of a walk for one who asks.
+/// The reply to one who asks, by what the walk came to.
 pub(crate) fn reply_of<V: View>(view: &V, asking: Asking, walked: Walked) -> Reply
     ensures { result ≡ spec.reply_of asking (V.rows view.now) walked }
 {
@@ -99,7 +99,8 @@ pub(crate) fn use_reply<V: View>(
     }
 }
 
-/// What the walk from a use comes to: the answer that is kept for it, and else that of a walk.
+/// What the walk from a use comes to: the answer that is kept for it, where there is one, else that of
+/// a new walk.
 pub(crate) fn answer<V: View>(
     alloc: Global,
     view: &V,
@@ -144,7 +145,7 @@ fn answer_anew<V: View>(
     }
 }
 
-/// Puts down what was asked with its reply, and hands the reply back. An answer is kept behind all
+/// Puts down what was asked with its reply, and hands the reply back. An answer is kept after all
 /// else that may want memory.
 pub(crate) fn tell_found(
     book: &mut Book,

@@ -21,6 +21,7 @@ impl From<Memory> for NoStep {
 
     ghost from_gives = { λ _ e. e ≡ OutOfMemory };
 
+    /// For `?` after a call that lacked memory.
     fn from(_: Memory) -> NoStep {
         NoStep::Memory
     }
@@ -32,6 +33,7 @@ impl From<AllocError> for NoStep {
 
     ghost from_gives = { λ _ e. e ≡ OutOfMemory };
 
+    /// For `?` where an allocation fails: memory ran out.
     fn from(_: AllocError) -> NoStep {
         NoStep::Memory
     }
@@ -42,6 +44,7 @@ impl From<BookFault> for NoStep {
 
     ghost from_gives = { IsRoom };
 
+    /// For `?` where the book takes no more entries: the same refusal, of a step.
     fn from(fault: BookFault) -> NoStep {
         match fault {
             BookFault::HistoryFull => NoStep::HistoryFull,

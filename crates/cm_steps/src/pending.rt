@@ -59,7 +59,7 @@ fn act_place(acts: &[Act], action: u64) -> Option<usize>
     Some((action - 1) as usize)
 }
 
-/// Puts down what became of an action, among actions that are numbered from 1 on.
+/// Records what became of an action, among actions that are numbered from 1 on.
 pub fn settle(acts: &mut Vec<Act>, action: u64, outcome: Outcome)
     requires { IsNumbered 1 acts.old.items }
     ensures { acts.new.items ≡ ended action outcome acts.old.items }
@@ -80,7 +80,7 @@ pub fn join_place(joins: &[Join], caller: u32, action: u64) -> Option<usize>
         .position(|join| join.caller == caller && join.action == action)
 }
 
-/// Takes away the join of the caller.
+/// Removes the caller's join of the action, which it awaited.
 pub fn take_join(joins: &mut Vec<Join>, caller: u32, action: u64)
     ensures { joins.new.items ≡ unjoined caller action joins.old.items }
 {

@@ -58,6 +58,7 @@ pub struct Realm {
 }
 
 impl Drop for Realm {
+    /// Called where the value goes: gives back the memory of its parts.
     fn drop(self) {
         let Realm {
             frame: _,
@@ -83,8 +84,10 @@ impl Model for Realm {
 }
 
 impl Storied for Realm {
+    /// The entries of the history.
     type Entry = Entry;
 
+    /// What the realm was made with.
     type Frame = Frame;
 
     ghost story = { λ s. s.entries };
@@ -132,7 +135,7 @@ impl Realm {
         })
     }
 
-    /// The history, which is legal.
+    /// The history, which is legal, from the first entry on.
     pub fn entries(&self) -> &[Entry]
         ensures entries { result.now ≡ self.now.entries }
         ensures legal { Legal (start self.now.frame) self.now.entries }
@@ -173,9 +176,9 @@ impl Realm {
         book
     }
 
-    /// How many routes and openings of the history asked for a use whose answer was still there.
-    /// What a walk comes to is kept, unless it waits for a declaration or is a route of more than 64
-    /// hops; of 16,384 answers all go before one more. All go, too, where an instance is resolved,
+    /// How many routes and openings of the history were cache hits: asked for a use whose answer was
+    /// kept. What a walk comes to is kept, unless it waits for a declaration or is a route of more than
+    /// 64 hops; of 16,384 answers all go before one more. All go, too, where an instance is resolved,
     /// created, removed or doomed.
     pub fn kept(&self) -> u64
         ensures { IsKeptNumber self.now.frame self.now.entries result }
@@ -192,9 +195,9 @@ impl Realm {
         self.records.book.fits(need)
     }
 
-    /// Puts down an event that changes no row, no action and no join, and is no route or opening
-    /// that a walk answers, and hands its reply back. The history keeps a copy, which takes no more
-    /// than it needs.
+    /// Records an event that changes no row, no action and no join, and is no route or opening that a
+    /// walk answers, and hands its reply back. The history keeps a copy, which takes no more than it
+    /// needs.
     fn tell(&mut self, caller: u32, event: Event, reply: Reply) -> Result<Reply, NoStep>
         requires quiet { moves event reply ≡ false }
         requires unasked { asked_by (world_of self.old) event ≡ None }

@@ -1,4 +1,4 @@
-//! What a realm puts down: its history, with what is known beside it.
+//! What a realm records: its history, with what is known beside it.
 
 ghost use Rattle.std.specs.Prelude.{◌≡◌, ◌-◌, ◌<◌, ◌++◌, ◌∷◌, []};
 ghost use Rattle.cm_cache.specs.Beside.{followed, is_emptied};

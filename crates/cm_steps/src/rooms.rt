@@ -102,6 +102,7 @@ fn room_for_rows(resolves: u32, table: &mut Table, kind: ActKind) -> Result<u32,
     Ok(begun)
 }
 
+/// Whether an action of this kind resolves, and so needs memory kept for its declaration.
 fn is_resolve(kind: ActKind) -> bool
     ensures { result ≡ same_act kind ActKind.Resolve }
 {

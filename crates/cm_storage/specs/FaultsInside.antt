@@ -1,5 +1,5 @@
 -- Inside.
--- The faults of storage in a declaration.
+-- What is looked for in the storage of a declaration, rule by rule.
 use Rattle.cm_decl.specs.declared.decl.Decl.{Decl}
 use Rattle.cm_decl.specs.declared.storage.Storage.{Storage}
 use Rattle.cm_decl.specs.Breaks.{passes_at}
@@ -10,7 +10,7 @@ use Rattle.cm_env.specs.Repeats.{repeats_at}
 use Rattle.cm_storage.specs.declared.check.Found.{Found}
 use Rattle.cm_storage.specs.Faults.{is_from_nobody, is_to_nobody, is_of_nothing}
 
--- each was found at the first row that breaks its rule
+-- for each rule the first row that breaks it was found, or that none does
 pub record StorageFaultsFound (d : Decl) (f : Found) : Type 0 where
   pub repeated : IsFirstAt (repeats_at (λ (s : Storage). s.name) d.storages) f.repeated
   pub source : IsFirstAt (passes_at (is_from_nobody d) d.storages) f.source

@@ -1,7 +1,7 @@
 -- Inside.
--- The folders of an instance's place below its storage.
+-- Lists that begin with others.
 use Rattle.std.specs.Prelude.{◌≡◌, List, ◌++◌}
 
--- the second list is the first one, or goes on behind it
+-- the second list begins with the first
 abbrev pub IsPrefixOf : {A : Type 0} → List A → List A → Type 0
 IsPrefixOf {A} prefix whole = (rest : List A) × (whole ≡ prefix ++ rest)

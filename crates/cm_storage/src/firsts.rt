@@ -21,11 +21,13 @@ type Index<'a> = HashMap<(&'a str, &'a str), &'a StorageOffer>;
 /// A declaration, for those who look for many of its storage offers. Contracts see it as the
 /// declaration.
 pub(crate) struct OfferIndex<'a> {
+    /// The declaration whose storages and offers these are.
     decl: &'a Decl,
     index: Option<Index<'a>>,
 }
 
 impl<'a> Drop for OfferIndex<'a> {
+    /// Called where the value goes: gives back the memory of its parts.
     fn drop(self) {
         let OfferIndex { decl: _, index: _ } = self;
     }

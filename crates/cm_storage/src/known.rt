@@ -22,7 +22,7 @@ const MORE_ROOM: usize = 64;
 pub(crate) enum KnownPlace {
     /// It has none: ` refused NUMBER WORDS`.
     Refused(Text),
-    /// What stands before the name of the child, ` at BASE/PARTS/`, and what stands behind its
+    /// What stands before the name of the child, ` at BASE/PARTS/`, and what stands after its
     /// folder, ` in SOURCE`.
     Stands(Text, Text),
 }
@@ -62,7 +62,7 @@ impl KnownPlace {
     }
 }
 
-/// A head with the folders of the child behind it, below which its children have theirs.
+/// A head with the folders of the child after it, below which its children have theirs.
 fn head_below(alloc: Global, head: &Text, child: &ChildName) -> Result<Text, Memory>
     ensures { IfOk result (λ made. made ≡ head.now ++ (child_text child.now ++ codes "/children/")) }
 {
@@ -120,7 +120,7 @@ fn push_folders(text: &mut String, names: &[Shared<ChildName>]) -> Result<(), Me
     Ok(())
 }
 
-/// ` in SOURCE`.
+/// The text of a place after the child's folder: ` in SOURCE`. `Err` where memory runs out.
 fn tail_of(alloc: Global, place: &Place) -> Result<Text, Memory>
     ensures { IfOk result (λ tail. tail ≡ spec.tail_of place.now.provider) }
 {

@@ -59,7 +59,7 @@ impl<'a> ParentAtHand<'a> {
         }
     }
 
-    /// The same of what an offer hands on.
+    /// What is kept for the storage that an offer hands on, if something is.
     pub(crate) fn kept_by(&self, offer: &StorageOffer) -> Option<&KnownPlace>
         ensures { option_copied result
             ≡ spec.kept_by self.now.handed.items offer.now.from offer.now.source_name }
@@ -80,7 +80,9 @@ pub(crate) fn child_place<V: View>(view: &V, inc: u64) -> Option<ParentPlace<'_>
     view.place(inc)
 }
 
-/// An instance that has this declaration, by the instance above it, if that is at hand.
+/// An instance that has this declaration, prepared for what is asked of its children: its moniker as
+/// far as they need it, and an index of its offers. The one above it, where it is at hand, spares the
+/// way up.
 pub(crate) fn standing_at<'a, V: View>(
     alloc: Global,
     view: &'a V,
@@ -123,7 +125,8 @@ fn prefix_of<V: View>(
     prefix_behind(alloc, &above.prefix, place.name.get())
 }
 
-/// That of a child whose own name has this prefix.
+/// The text of a child's moniker up to its children's names, by that of its parent. `Err` where memory
+/// runs out.
 fn prefix_behind(alloc: Global, prefix: &Text, child: &ChildName) -> Result<Text, Memory>
     ensures { IfOk result (λ made. made ≡ prefix.now ++ (child_text child.now ++ codes "/")) }
 {
@@ -134,7 +137,8 @@ fn prefix_behind(alloc: Global, prefix: &Text, child: &ChildName) -> Result<Text
     Text::from_string(text)
 }
 
-/// The same, by the names from the root down.
+/// The text of an instance's moniker up to its children's names, made of the names from the root down.
+/// `Err` where memory runs out.
 fn prefix_alone<V: View>(alloc: Global, view: &V, inc: u64) -> Result<Text, Memory>
     ensures { IfOk result (λ prefix. prefix ≡ spec.prefix_of (moniker_of (V.rows view.now) inc)) }
 {
@@ -144,7 +148,7 @@ fn prefix_alone<V: View>(alloc: Global, view: &V, inc: u64) -> Result<Text, Memo
     Text::from_string(text)
 }
 
-/// Puts each name, with a slash behind it, at the end.
+/// Puts each name, with a slash after it, at the end.
 fn push_names(text: &mut String, names: &[Shared<ChildName>]) -> Result<(), Memory>
     ensures { OnOk result (GainsText text.old text.new (spec.names_text names.now)) }
 {

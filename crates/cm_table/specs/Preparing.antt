@@ -13,12 +13,12 @@ use Rattle.cm_table.specs.Slots.{rows_in}
 use Rattle.cm_table.specs.Numbering.{IsBare}
 use Rattle.cm_table.specs.declared.prepared.Prepared.TheInside.{Inside}
 
--- what its fields say
+-- what contracts see of a prepared declaration's fields
 abbrev pub ready_of : Inside → Ready
 ready_of a = record { absolute = a.absolute; decl = a.decl }
 
--- the declaration is valid, the second copies are copies, the rows of the children are there but
--- for their numbers, and the index leads to them by the numbers 0, 1 and so on
+-- what always holds of them: the declaration is valid, the second copies are copies, and the rows and
+-- the index of the children are made but for their numbers, which are 0, 1 and so on
 pub record IsPrepared (a : Inside) : Type 0 where
   pub valid : IsValid a.decl
   pub absolute : a.kept_absolute ≡ a.absolute

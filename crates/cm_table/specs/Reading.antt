@@ -10,13 +10,14 @@ use Rattle.cm_world.specs.declared.frame.Builtin.{Builtin}
 use Rattle.cm_world.specs.Rows.{has_parent, has_name}
 use Rattle.cm_world.specs.RowsInside.{is_behind}
 
--- the child of that name that isn't doomed
+-- whether a row is the child of p with this name, and isn't doomed
 abbrev pub is_there : ℕ → ChildName → Row → Bool
 is_there p c r = has_parent p r && has_name c r && not r.doomed
 
--- a child that was made after the given one
+-- whether a row is a child of p that was made after the given one
 abbrev pub follows : ℕ → Option ℕ → Row → Bool
 follows p after r = has_parent p r && is_behind after r.inc
 
+-- whether a builtin has this kind and name
 abbrev pub is_builtin : Kind → List ℕ → Builtin → Bool
 is_builtin kind name b = same_kind b.kind kind && bytes_eq b.name name

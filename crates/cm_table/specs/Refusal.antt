@@ -5,7 +5,7 @@ use Rattle.cm_table.specs.Tree.{Tree, fit}
 use Rattle.cm_table.specs.declared.table.TableFault.{TableFault}
 use Rattle.cm_table.specs.declared.table.TableFault.TheVariants.{Full, Memory}
 
--- Full where one row more doesn't fit; lack of memory only where it does
+-- why a table takes no further row: it is full; or it isn't, and memory ran out
 abbrev pub RefusesRow : Tree → TableFault → Type 0
 RefusesRow t Full = fit t 1 ≡ false
 RefusesRow t Memory = fit t 1 ≡ true

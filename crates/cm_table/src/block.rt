@@ -53,7 +53,7 @@ fn begins_upto(blocks: &[RowBlock], place: usize, inc: u64) -> bool
     }
 }
 
-/// About where the block of that incarnation stands: exactly there where all blocks behind the first
+/// About where the block of that incarnation stands: exactly there where all blocks after the first
 /// one have as many slots, and none was removed but before them or at the end.
 #[inline(always)]
 fn interpolated(blocks: &[RowBlock], inc: u64) -> usize
@@ -308,7 +308,7 @@ pub fn swap_in(blocks: &mut Vec<RowBlock>, inc: u64, index: &mut Option<ChildInd
 
 // ---- slots that come and go
 
-/// Puts a block behind the others, unless it has no slot.
+/// Puts a block after the others, unless it has no slot.
 pub fn push_block(blocks: &mut Vec<RowBlock>, slots: Vec<Slot>)
     requires room { length blocks.old.items < vec_capacity blocks.old }
     requires filled { Filled slots_in blocks.old.items }

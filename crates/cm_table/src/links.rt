@@ -33,7 +33,7 @@ fn or_new(alloc: Global, index: Option<ChildIndex>) -> ChildIndex
     }
 }
 
-/// Puts a child behind the others. `Err` where memory runs out: then it says what it said.
+/// Puts a child after the others. `Err` where memory runs out: then it says what it said.
 fn put_child(
     alloc: Global,
     index: &mut Option<ChildIndex>,
@@ -77,7 +77,7 @@ fn forget_child(index: &mut Option<ChildIndex>, name: Option<&ChildName>, inc: u
     own.forget(name, above);
 }
 
-/// Removes a child.
+/// Takes a child out of the index of its parent's children, if it is there.
 fn remove_child(index: &mut Option<ChildIndex>, inc: u64)
     requires { Rises index.old }
     ensures base { base_of index.new ≡ base_of index.old }

@@ -92,7 +92,7 @@ fn count_before(offers: &[Offer], places: &[usize], to: &Name, kind: Kind, name:
     places.partition_point(|place| is_before(offers, *place, &wanted))
 }
 
-/// What the offer at this place is looked for by; behind the last one nothing is.
+/// What the offer at this place is looked for by; after the last one nothing is.
 fn key_at(offers: &[Offer], place: usize) -> OfferLookup<'_>
     ensures { spec.key_of result ≡ spec.key_at offers.now place }
 {

@@ -121,7 +121,7 @@ impl ChildIndex {
         Some(self.base + above)
     }
 
-    /// Puts a child behind the others, which is so far above the base. `Err` where memory runs
+    /// Puts a child after the others, which is so far above the base. `Err` where memory runs
     /// out: then nothing is changed.
     pub fn put(&mut self, name: ChildName, above: u64) -> Result<(), Memory>
         ensures base { self.new.base ≡ self.old.base }

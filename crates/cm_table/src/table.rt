@@ -368,7 +368,7 @@ impl Table {
         }
     }
 
-    /// The instance, if it lives.
+    /// The incarnation itself where its instance lives, else `None`.
     fn live(&self, inc: u64) -> Option<u64>
         ensures { Continues self.now inc result }
     {

@@ -4,6 +4,7 @@ use Rattle.std.specs.Prelude.{◌≡◌, ◌∷◌, ◌++◌, codes, Ok, Err}
 use Rattle.cm_text.specs.Json.{json_of}
 use Rattle.cm_text.specs.declared.fault.TextFault.TheVariants.{BadToken, Unclosed}
 
+-- worked examples, each of one feature or fault of the relaxed spelling
 pub record SpellingExamples : Type 0 where
   pub manifest : json_of (codes "{children:[{name:'a',url:'#meta/a.cm'},],/* one */}")
       ≡ Ok (codes "{ \"children\" : [ { \"name\" : \"a\" , \"url\" : \"#meta/a.cm\" } ] }")

@@ -1,5 +1,5 @@
 -- Inside.
--- What holds of tokens and faults.
+-- Laws of tokens and faults, as statements: the grammar and the computed reader agree.
 use Rattle.std.specs.Prelude.{◌≡◌, ◌⊎◌, ℕ, List, Ok, Err}
 use Rattle.cm_text.specs.Token.{Token}
 use Rattle.cm_text.specs.Split.{AreTokensOf, IsTextFault}
@@ -7,7 +7,7 @@ use Rattle.cm_text.specs.Pieces.{tokens}
 use Rattle.cm_text.specs.Json.{json_of_tokens}
 use Rattle.cm_text.specs.declared.fault.TextFault.{TextFault}
 
--- this is the JSON of the text's tokens
+-- this is the JSON of the tokens that the text has by the grammar
 abbrev pub IsJsonOf : List ℕ → List ℕ → Type 0
 IsJsonOf text json = (ts : List Token) × AreTokensOf text ts × (json ≡ json_of_tokens ts)
 
@@ -15,11 +15,11 @@ IsJsonOf text json = (ts : List Token) × AreTokensOf text ts × (json ≡ json_
 abbrev pub TokensAreUnique : Type 0
 TokensAreUnique = (text : List ℕ) (ts us : List Token) → AreTokensOf text ts → AreTokensOf text us → ts ≡ us
 
--- and it is the one that is computed
+-- the tokens that a text has by the grammar are the computed ones
 abbrev pub TokensAreComputed : Type 0
 TokensAreComputed = (text : List ℕ) (ts : List Token) → AreTokensOf text ts → tokens text ≡ Ok ts
 
--- a text's fault is the one that is computed
+-- the fault that a text has by the grammar is the computed one
 abbrev pub FaultsAreComputed : Type 0
 FaultsAreComputed = (text : List ℕ) (e : TextFault) → IsTextFault text e → tokens text ≡ Err e
 
@@ -27,7 +27,7 @@ FaultsAreComputed = (text : List ℕ) (e : TextFault) → IsTextFault text e →
 abbrev pub FaultsAreUnique : Type 0
 FaultsAreUnique = (text : List ℕ) (e f : TextFault) → IsTextFault text e → IsTextFault text f → e ≡ f
 
--- and none where it has tokens
+-- a text with tokens has no fault
 abbrev pub TokensExcludeFaults : Type 0
 TokensExcludeFaults =
     (text : List ℕ) (ts : List Token) (e : TextFault) → AreTokensOf text ts → IsTextFault text e → ⊥

@@ -1,5 +1,5 @@
 -- Inside.
--- Which tokens a text has, or its first fault.
+-- The grammar of the relaxed spelling: which tokens a text has, or its first fault.
 use Rattle.std.specs.Prelude.{◌≡◌, ◌≢◌, ◌⊎◌, ℕ, List, [], ◌∷◌, ◌++◌, length, Bool, true, false, not, ◌&&◌}
 use Rattle.std.specs.Prelude.{◌||◌, ◌==◌, IsTrue}
 use Rattle.std.specs.List.{list_all, flat_map}
@@ -13,34 +13,37 @@ use Rattle.cm_text.specs.declared.fault.TextFault.TheVariants.{BadToken, Unclose
 
 -- ---- which pieces may stand
 
--- a plain byte is neither the closing quote nor a backslash
+-- whether a character may stand in a string with this quote: plain, it is neither the quote nor a
+-- backslash
 abbrev pub is_char : ℕ → Char → Bool
 is_char q (plain b) = not (b == q) && not (b == 92)
 is_char q (taken b) = true
 
--- whether a star and a slash stand somewhere
+-- whether a star and a slash follow each other somewhere in the bytes
 abbrev pub has_end : List ℕ → Bool
 has_end [] = false
 has_end (b ∷ bs) = closes_comment (b ∷ bs) || has_end bs
 
--- a comment's text, whose closing star and slash are the first ones
+-- whether a text may stand in a comment between stars, whose first star and slash end it
 abbrev pub is_comment : List ℕ → Bool
 is_comment bs = not (has_end (bs ++ 42 ∷ []))
 
--- which tokens there are: marks, strings that their first closing quote ends, and words of one byte or more
+-- whether it is a token: a mark, a string that its first closing quote ends, or a word of one byte or
+-- more
 abbrev pub is_token : Token → Bool
 is_token (mark b) = is_mark b
 is_token (quoted q cs) = is_quote q && list_all (is_char q) cs
 is_token (word bs) = not (length bs == 0) && list_all is_word_byte bs
 
--- which pieces there are
+-- whether it is a piece: a token, a space or a comment
 abbrev pub is_piece : Piece → Bool
 is_piece (token t) = is_token t
 is_piece (space b) = is_space b
 is_piece (line_comment bs) = list_all is_in_line bs
 is_piece (block_comment bs) = is_comment bs
 
--- what may stand behind a piece: a word, and a comment to the line's end, are as long as they can be
+-- whether this rest may follow the piece; words and comments to the line's end are as long as they can
+-- be
 abbrev pub may_follow : Piece → List ℕ → Bool
 may_follow (token (mark b)) rest = true
 may_follow (token (quoted q cs)) rest = true
@@ -49,12 +52,12 @@ may_follow (space b) rest = true
 may_follow (line_comment bs) rest = not (begins_with is_in_line rest)
 may_follow (block_comment bs) rest = true
 
--- these may be the pieces before the rest
+-- whether these can be the pieces of a text before the rest
 abbrev pub are_pieces : List Piece → List ℕ → Bool
 are_pieces [] rest = true
 are_pieces (p ∷ ps) rest = is_piece p && may_follow p (bytes_of ps ++ rest) && are_pieces ps rest
 
--- a text is these pieces, and then the rest
+-- the text is these pieces, and then the rest
 pub record SplitsInto (text : List ℕ) (ps : List Piece) (rest : List ℕ) : Type 0 where
   pub bytes : bytes_of ps ++ rest ≡ text
   pub pieces : IsTrue (are_pieces ps rest)
@@ -69,7 +72,7 @@ pub record AreTokensOf (text : List ℕ) (ts : List Token) : Type 0 where
 
 -- ---- the faults
 
--- no piece begins with this byte, before the others
+-- whether no piece begins with this byte and these further ones
 abbrev pub begins_nothing : ℕ → List ℕ → Bool
 begins_nothing b bs =
     not (is_mark b) && not (is_space b) && not (is_quote b) && not (is_word_byte b)
@@ -93,7 +96,7 @@ abbrev pub BeginsNothing : List ℕ → Type 0
 BeginsNothing [] = ⊥
 BeginsNothing (b ∷ bs) = IsTrue (begins_nothing b bs)
 
--- the text's first fault: behind some pieces stands what begins no piece, or what never ends
+-- the text's first fault: after some pieces stands what begins no piece, or what never ends
 abbrev pub IsTextFault : List ℕ → TextFault → Type 0
 IsTextFault text (BadToken at) =
     (ps : List Piece) × (rest : List ℕ) × SplitsInto text ps rest × (at ≡ length (bytes_of ps))

@@ -22,6 +22,7 @@ impl From<Memory> for TextFault {
 
     ghost from_gives = { λ _ e. e ≡ OutOfMemory };
 
+    /// For `?` after a call that lacked memory.
     fn from(_e: Memory) -> TextFault {
         TextFault::Memory
     }
@@ -33,6 +34,7 @@ impl From<AllocError> for TextFault {
 
     ghost from_gives = { λ _ e. e ≡ OutOfMemory };
 
+    /// For `?` where an allocation fails: memory ran out.
     fn from(_e: AllocError) -> TextFault {
         TextFault::Memory
     }
@@ -44,6 +46,7 @@ impl<T: Drop> From<AllocFailed<T>> for TextFault {
 
     ghost from_gives = { λ _ e. e ≡ OutOfMemory };
 
+    /// For `?` where an allocation fails: memory ran out.
     fn from(_e: AllocFailed<T>) -> TextFault {
         TextFault::Memory
     }

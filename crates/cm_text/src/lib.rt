@@ -2,7 +2,7 @@
 //!
 //! Manifest sources (`.cml` files, Fuchsia's "Component manifest reference", fuchsia.dev) are
 //! written with the liberties of JSON5 that people use by hand: comments, keys without quotes,
-//! strings in single quotes, and a comma behind the last item. [`to_json`] reads such a text as
+//! strings in single quotes, and a comma after the last item. [`to_json`] reads such a text as
 //! tokens and writes the same tokens in plain JSON, parted by one space. It judges tokens alone:
 //! whether they make up a JSON value is for a reader of JSON to say.
 //!
@@ -10,7 +10,7 @@
 //!   character with it, and words: the longest runs of ASCII letters, digits and `_ $ + - .`.
 //! - Between tokens stand spaces, tabs, line feeds, carriage returns, comments from `//` to the
 //!   next line feed or the text's end, and comments from `/*` to the next `*/`.
-//! - A comma before `}` or `]` is left out, unless it is the first token or stands right behind
+//! - A comma before `}` or `]` is left out, unless it is the first token or stands right after
 //!   `{`, `[` or `,`.
 //! - A word before `:` that begins with a letter, `_` or `$` and has only letters, digits, `_`
 //!   and `$` is put in double quotes.

@@ -24,7 +24,7 @@ fn line_len(bytes: &[u8]) -> usize
     bytes.iter().take_while(|byte| **byte != b'\n').count()
 }
 
-/// Whether the bytes begin with `*/`.
+/// Whether the bytes begin with `*/`, which ends a comment.
 fn closes_comment(bytes: &[u8]) -> bool
     ensures { result ≡ spec.closes_comment bytes.now }
 {

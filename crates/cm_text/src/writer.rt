@@ -39,7 +39,7 @@ fn is_bare_key(word: &str) -> bool
     first_begins_key(bytes) && all_continue_key(bytes)
 }
 
-/// Whether a comma is left out: before `}` or `]`, behind a token other than `{`, `[` and `,`.
+/// Whether a comma is left out: before `}` or `]`, after a token other than `{`, `[` and `,`.
 fn is_needless(before: Option<Token<'_>>, token: Token<'_>, after: Option<Token<'_>>) -> bool
     ensures { result ≡ spec.is_needless (option_map token_of before.entry) (token_of token.entry)
         (option_map token_of after.entry) }
@@ -66,7 +66,7 @@ fn write_in_quotes(json: &mut String, text: &str) -> Result<(), AllocError>
     json.push('"')
 }
 
-/// Writes a character of a string in single quotes, which stands behind a backslash or not.
+/// Writes a character of a string in single quotes, which stands after a backslash or not.
 fn write_char(json: &mut String, c: char, taken: bool) -> Result<(), AllocError>
     ensures { OnOk result (string_bytes json.new ≡ string_bytes json.old ++ char_text taken c) }
 {
@@ -109,7 +109,7 @@ fn write_quoted(json: &mut String, quote: u8, inside: &str) -> Result<(), AllocE
     }
 }
 
-/// Writes a token's JSON.
+/// Adds the JSON of a token to the text; a word gets quotes where a colon follows it.
 fn write_token(json: &mut String, token: Token<'_>, before_colon: bool) -> Result<(), AllocError>
     requires { IsTrue (is_token (token_of token)) }
     ensures { OnOk result (string_bytes json.new
@@ -123,7 +123,7 @@ fn write_token(json: &mut String, token: Token<'_>, before_colon: bool) -> Resul
     }
 }
 
-/// Writes a token between its neighbours, behind a space where a token stands before it.
+/// Writes a token between its neighbours, after a space where a token stands before it.
 fn write_between(
     json: &mut String,
     before: Option<Token<'_>>,
@@ -146,7 +146,7 @@ fn write_between(
 }
 
 /// What is written of a text's JSON so far: the JSON of all its tokens but the last one read,
-/// whose spelling depends on the token behind it.
+/// whose spelling depends on the token after it.
 #[derive(Drop)]
 pub(crate) struct JsonWriter<'a> {
     json: String,

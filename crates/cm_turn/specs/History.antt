@@ -7,10 +7,11 @@ module _ {E : Type 0} where
   abbrev pub StartsWith : List E → List E → Type 0
   StartsWith log seen = (rest : List E) × (log ≡ seen ++ rest)
 
-  -- the entries of the caller c, in order
+  -- the entries that caller c made, in order
   abbrev pub entries_by : (E → ℕ) → ℕ → List E → List E
   entries_by by c log = filter (λ e. by e == c) log
 
+  -- the second list where the flag is true, else the first
   abbrev pub longer_if : Bool → List E → List E → List E
   longer_if true xs ys = ys
   longer_if false xs ys = xs

@@ -1,5 +1,5 @@
 -- Inside.
--- What the step of one seat may do to the slot.
+-- What the step of one seat may do to the slot with the state.
 use Rattle.std.specs.Prelude.{◌≡◌, ◌≢◌, ◌↔◌, ℕ, true, List, [], ◌∷◌, ◌++◌, All, Option, length, slice_set}
 use mathlib.Core.Option.{some, none}
 use lib.ListN.{get_elem?}
@@ -9,11 +9,11 @@ use Rattle.cm_turn.specs.Laws.{HasView}
 use Rattle.cm_turn.specs.Rule.{Homes, KeepsRule}
 
 module _ {S : Type 0} where
-  -- none of these slots is at home
+  -- none of these slots is at home: seats have them
   abbrev pub AreOut : Homes S → List (ℕ × Option S) → Type 0
   AreOut homes slots = All (λ slot. get_elem? homes slot.0 ≡ some none) slots
 
-  -- a seat with these slots may do this
+  -- a seat that has these slots may do this with them
   abbrev pub MayDo : Homes S → List (ℕ × Option S) → Act (Option S) → Type 0
   MayDo homes slots act = AreOut homes slots × Valid homes slots act
 
@@ -22,7 +22,8 @@ module _ {S E F : Type 0} where
   abbrev pub HasTurn : State (Option S) (SeatView E F) → ℕ → Type 0
   HasTurn s i = (v : SeatView E F) × HasView s i v × (v.turn ≡ true)
 
-  -- seat i comes from s to t: it takes slots from home and gives others back, and no other view changes
+  -- seat i goes a step from table s to table t: it takes slots or gives some back, and no other seat's
+  -- view changes
   pub record MovesSlots (s t : State (Option S) (SeatView E F)) (i : ℕ) : Type 0 where
     -- the slots that it has, and what it does
     pub slots : List (ℕ × Option S)
@@ -33,7 +34,7 @@ module _ {S E F : Type 0} where
     -- what the other seats know
     pub others : (j : ℕ) (v : SeatView E F) → j ≢ i → HasView s j v ↔ HasView t j v
 
-  -- each step of a seat on a word is such a move
+  -- each step of a seat on a word of the table is such a move
   abbrev pub StepsMove : State (Option S) (SeatView E F) → Type 0
   StepsMove s =
       (word number i : ℕ) (slots : List (ℕ × Option S)) (v : SeatView E F) (act : Act (Option S))
@@ -45,13 +46,13 @@ module _ {S E F : Type 0} where
   joined_by s words v act =
       record { words = words; homes = homes_after s.homes [] act; views = s.views ++ v ∷ [] }
 
-  -- so is the coming of a seat
+  -- the coming of a seat is such a move too
   abbrev pub ArrivalsMove : State (Option S) (SeatView E F) → Type 0
   ArrivalsMove s =
       (words : List ℕ) (v : SeatView E F) (act : Act (Option S))
       → Valid s.homes [] act → MovesSlots s (joined_by s words v act) (length s.views)
 
--- a move of a seat that has the turn neither before nor after it leaves at home what was there
+-- a move of a seat that hasn't the turn, neither before it nor after, leaves the state where it is
 abbrev pub OnlyTurnMoves : {S E F : Type 0} → (S → List E) → (S → F) → (E → ℕ) → Type 0
 OnlyTurnMoves {S} {E} {F} story frame by =
     (key : S × ℕ) (s t : State (Option S) (SeatView E F)) (i : ℕ)

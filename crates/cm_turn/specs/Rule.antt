@@ -1,5 +1,6 @@
 -- Inside.
--- The rule of the lock's table, which holds between any two steps.
+-- The rule of the lock's table, which holds between any two steps. Tickets are served in turn; the
+-- seat whose ticket is served has the state.
 use Rattle.std.specs.Prelude.{◌≡◌, ℕ, ◌+◌, ◌%◌, ◌^◌, ◌<◌, ◌≤◌, ◌⊎◌, Bool, true, false, List, [], ◌∷◌, Option}
 use Rattle.std.specs.Prelude.{Some, None}
 use mathlib.Core.Option.{some, none}
@@ -9,24 +10,26 @@ use Rattle.cm_turn.specs.declared.view.SeatView.{SeatView}
 use Rattle.cm_turn.specs.declared.view.Known.{Known}
 use Rattle.cm_turn.specs.History.{StartsWith, entries_by}
 
--- how many tickets a view has
+-- how many tickets a view has: one or none
 abbrev pub ticket_count : Option ℕ → ℕ
 ticket_count None = 0
 ticket_count (Some t) = 1
 
+-- the sum of a number over all items
 abbrev pub total : {V : Type 0} → (V → ℕ) → List V → ℕ
 total f [] = 0
 total f (v ∷ vs) = f v + total f vs
 
--- how many tickets all views have
+-- how many tickets all seats have
 abbrev pub tickets_out : {E F : Type 0} → List (SeatView E F) → ℕ
 tickets_out views = total (λ v. ticket_count v.ticket) views
 
--- how many passes all views are, or may yet make
+-- how many passes all seats stand for, made or still to be made
 abbrev pub parts_of : {E F : Type 0} → List (SeatView E F) → ℕ
 parts_of views = total (λ v. v.parts) views
 
--- What one moment adds to the table. Tickets are counted here without end.
+-- what isn't in the table itself at one moment, such as the whole history; tickets are counted here
+-- without end
 pub record Moment (E : Type 0) : Type 0 where
   -- how many tickets were drawn
   pub drawn : ℕ
@@ -43,42 +46,43 @@ pub record Moment (E : Type 0) : Type 0 where
   -- the history
   pub log : List E
 
--- ticket t is held: the seat that it belongs to has it
+-- ticket t is held by the seat to which it was given
 abbrev pub IsHeld : {E F : Type 0} → Moment E → List (SeatView E F) → ℕ → Type 0
 IsHeld {E} {F} m views t = (v : SeatView E F) × (get_elem? views (m.line t) ≡ some v) × (v.ticket ≡ Some t)
 
--- each ticket that is drawn and not yet past is held
+-- each ticket that was drawn and hasn't been served yet is held
 abbrev pub IsQueue : {E F : Type 0} → Moment E → List (SeatView E F) → Type 0
 IsQueue m views = (t : ℕ) → m.served ≤ t → t < m.drawn → IsHeld m views t
 
--- what each slot has: none where it is out with a seat, and else its value, which is a state or nothing yet
+-- what each slot has: none where a seat has taken it, else its value, which is a state or nothing yet
 abbrev pub Homes : Type 0 → Type 0
 Homes S = List (mathlib.Core.Option.Option (Option S))
 
--- what is at home while a view has the turn: the empty slot until the maker takes it, and nothing afterwards
+-- what is in the slot while a seat has the turn: nothing yet until the maker takes it, and none
+-- afterwards
 abbrev pub left_home : {S : Type 0} → Bool → mathlib.Core.Option.Option (Option S)
 left_home true = some None
 left_home false = none
 
--- seat i speaks for caller c: that pass is made, and `mine` are the caller's entries in the history
+-- seat i stands for caller c: that pass is made, and `mine` are the caller's entries in the history
 abbrev pub SpeaksFor : {E : Type 0} → (E → ℕ) → Moment E → ℕ → ℕ → List E → Type 0
 SpeaksFor by m i c mine = (m.seat c ≡ i) × (c < m.made) × (entries_by by c m.log ≡ mine)
 
 module _ {S E F : Type 0} where
-  -- the state is at home: it stands for the history, has the frame, and no view has the turn
+  -- the state is in the slot: it has the history and the frame, and no seat has the turn
   abbrev pub IsHome : (S → List E) → (S → F) → F → List E → Homes S → List (SeatView E F) → Type 0
   IsHome story frame f log homes views =
       (s : S) × (homes ≡ some (Some s) ∷ []) × (story s ≡ log) × (frame s ≡ f)
       × ((i : ℕ) (v : SeatView E F) → get_elem? views i ≡ some v → v.turn ≡ false)
 
-  -- the state is out: a view has the turn
+  -- the state is out: some seat has the turn
   abbrev pub IsOut : Homes S → List (SeatView E F) → Type 0
   IsOut homes views =
       (i : ℕ) × (v : SeatView E F) × (get_elem? views i ≡ some v) × (v.turn ≡ true)
       × (homes ≡ left_home v.fresh ∷ [])
 
 module _ {S E F : Type 0} (story : S → List E) (frame : S → F) (by : E → ℕ) where
-  -- the rule for one view: v is the view of seat i, at a lock with the frame f and n passes
+  -- the rule for one view: v is that of seat i, at a lock with the frame f and n passes
   pub record FitsView (f : F) (n : ℕ) (m : Moment E) (i : ℕ) (v : SeatView E F) : Type 0 where
     -- a frame that it knows is the lock's
     pub framed : (g : F) → v.frame ≡ Some g → g ≡ f
@@ -104,7 +108,7 @@ module _ {S E F : Type 0} (story : S → List E) (frame : S → F) (by : E → �
     -- the maker is one seat, knows how many passes are made, and has the others yet to make
     pub maker : v.makes ≡ true → (m.making ≡ i) × (v.made ≡ m.made) × (m.made + v.parts ≡ n)
 
-  -- the rule for one moment, of the table's words, of what is at home, and of all views
+  -- the rule for one moment, of the table's words, of what is in the slot, and of all views
   pub record MomentHolds (f : F) (n : ℕ) (m : Moment E) (words : List ℕ) (homes : Homes S)
       (views : List (SeatView E F)) : Type 0 where
     -- the words are the next ticket and the one that is served
@@ -126,6 +130,7 @@ module _ {S E F : Type 0} (story : S → List E) (frame : S → F) (by : E → �
     -- the state is at home, or out with a view that has the turn
     pub home : IsHome story frame f m.log homes views ⊎ IsOut homes views
 
-  -- The rule. The key has the first state, whose frame is the lock's, and the number of passes.
+  -- the rule: at each time there is such a moment. The key has the first state, whose frame is the
+  -- lock's, and the number of passes
   abbrev pub KeepsRule : S × ℕ → State (Option S) (SeatView E F) → Type 0
   KeepsRule key s = (m : Moment E) × MomentHolds (frame key.0) key.1 m s.words s.homes s.views

@@ -1,4 +1,5 @@
-//! The rule of the lock's table, and the kinds of its steps.
+//! The rule of the lock's table, and the kinds of its steps, as types that only proofs use. A seat is
+//! one thread's place at the table; the maker is the seat that makes the passes.
 ghost use Rattle.std.specs.Prelude.{ℕ};
 
 use crate::storied::Storied;

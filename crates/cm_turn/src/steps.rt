@@ -1,6 +1,6 @@
-//! The single steps of a seat at the lock's table.
-//!
-//! Word 0 is the next ticket and word 1 the one that is served, both modulo 2^64. The one slot has the state.
+//! The single steps of a seat at the lock's table, which [`crate::Turn`] puts together. A seat is one
+//! thread's place at the table. Word 0 is the next ticket and word 1 the one that is served, both
+//! modulo 2^64. The one slot has the state.
 ghost use Rattle.std.specs.Prelude.{◌≡◌, ◌<◌, ◌+◌, ◌%◌, ◌^◌, ◌++◌, ℕ, [], ◌∷◌, Some, None};
 ghost use Rattle.std.specs.Prelude.{IsSome, All, List, true, false, MatchBool};
 ghost use Rattle.cm_turn.specs.History.{StartsWith, entries_by, longer};
@@ -51,7 +51,8 @@ pub(crate) fn draw_ticket<S: Storied>(table: &LockTable<S>, seat: &mut LockSeat<
     table.fetch_add::<Draw>(seat, 0, 1)
 }
 
-/// One look at the ticket that is served: whether it is this one. Then the seat has the turn and the slot.
+/// Looks once whether this ticket is served. Where it is, the seat has the turn and the slot from then
+/// on.
 fn is_served<S: Storied>(table: &LockTable<S>, seat: &mut LockSeat<S>, ticket: u64) -> bool
     requires lock { IsLockTable table.now.table_id × (seat.old.table_id ≡ table.now.table_id) }
     requires bare { seat.old.me.1 ≡ [] }

@@ -27,8 +27,10 @@ pub struct Counter {
 }
 
 impl Storied for Counter {
+    /// An entry is one count.
     type Entry = Count;
 
+    /// The frame is the first number.
     type Frame = u64;
 
     ghost story = { λ s. s.counts.items };
@@ -39,6 +41,7 @@ impl Storied for Counter {
 }
 
 impl Counter {
+    /// A counter without counts.
     fn new(alloc: Global) -> Counter
         ensures { result.counts.items ≡ [] }
     {
@@ -48,6 +51,7 @@ impl Counter {
         }
     }
 
+    /// Adds a count of this caller, one above the last; without memory for it, it adds none.
     fn count(&mut self, caller: u32)
         ensures frame { self.new.first ≡ self.old.first }
         ensures entry { (es : Seq Counted)
@@ -59,6 +63,7 @@ impl Counter {
         let _ = self.counts.push(Count { caller, up_to });
     }
 
+    /// How many counts are this caller's.
     fn counts_of(&self, caller: u32) -> usize {
         self.counts
             .iter()
@@ -67,6 +72,7 @@ impl Counter {
     }
 }
 
+/// Takes one turn, and counts in it.
 fn one_turn<R: Wait>(rt: &R, turn: &Turn<Counter>, pass: Pass<Count, u64>) -> Pass<Count, u64>
     requires { pass.lock ≡ turn.now.lock }
     ensures { IsPassOf pass result }
@@ -77,6 +83,7 @@ fn one_turn<R: Wait>(rt: &R, turn: &Turn<Counter>, pass: Pass<Count, u64>) -> Pa
     turn.leave(held)
 }
 
+/// Takes so many turns, one after another.
 fn take_turns<R: Wait>(
     rt: &R,
     turn: &Turn<Counter>,
@@ -92,7 +99,7 @@ fn take_turns<R: Wait>(
     pass
 }
 
-// Each caller takes so many turns, in a thread of its own.
+/// Each caller takes so many turns, in a thread of its own.
 fn in_threads<R: Threads + Wait + Sync>(
     rt: &R,
     turn: &Turn<Counter>,
@@ -115,7 +122,7 @@ fn in_threads<R: Threads + Wait + Sync>(
     back.ok()
 }
 
-// The counter after each of so many callers has taken so many turns.
+/// The counter after each of so many callers has taken so many turns.
 fn counted<R: Threads + Wait + Sync>(
     rt: &R,
     alloc: Global,
@@ -131,7 +138,7 @@ fn counted<R: Threads + Wait + Sync>(
     Some(turn.close(List::from_vec(back)))
 }
 
-// The second caller meets the first after that one's turn, and then takes its own.
+/// The second caller meets the first after that one's turn, and then takes its own.
 fn count_and_meet<R: Wait>(rt: &R, alloc: Global) -> Option<(u32, u32)> {
     let (turn, passes) = Turn::new(alloc, Counter::new(alloc), 2).ok()?;
     let mut passes = passes.into_vec();
@@ -142,7 +149,7 @@ fn count_and_meet<R: Wait>(rt: &R, alloc: Global) -> Option<(u32, u32)> {
     Some((first.caller(), second.caller()))
 }
 
-// At the end each pass has the counts of its own caller, as the contract of `close` says.
+/// At the end each pass has the counts of its own caller, as the contract of `close` says.
 fn check_counts<R: Threads + Wait + Sync>(rt: &R, alloc: Global, callers: u32) -> Option<bool>
     requires { (0 < callers) × (callers ≤ 64) }
 {
@@ -153,6 +160,7 @@ fn check_counts<R: Threads + Wait + Sync>(rt: &R, alloc: Global, callers: u32) -
     Some(all && each && last)
 }
 
+/// Two, four and sixteen threads count, and no count is lost.
 #[test]
 fn threads_count_in_turns(rt: HostRuntime) -> Result<(), Fail> {
     assert_eq!(rt; check_counts(&rt, rt.alloc(), 2), Some(true));
@@ -161,6 +169,7 @@ fn threads_count_in_turns(rt: HostRuntime) -> Result<(), Fail> {
     Ok(())
 }
 
+/// Two callers that have counted meet, and know the same then.
 #[test]
 fn callers_meet(rt: HostRuntime) -> Result<(), Fail> {
     assert_eq!(rt; count_and_meet(&rt, rt.alloc()), Some((0, 1)));

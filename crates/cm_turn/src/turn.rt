@@ -206,7 +206,7 @@ impl<S: Storied> Turn<S> {
     }
 }
 
-// Each has then seen the longer of what they had seen.
+/// Each has then seen the longer of what they had seen.
 fn meet_seats<S: Storied>(table: &LockTable<S>, one: &mut LockSeat<S>, other: &mut LockSeat<S>)
     requires lock { IsLockTable table.now.table_id
         × (one.old.table_id ≡ table.now.table_id)
@@ -233,7 +233,7 @@ fn meet_seats<S: Storied>(table: &LockTable<S>, one: &mut LockSeat<S>, other: &m
     learn_told(table, other);
 }
 
-// A new seat that has taken in all these passes.
+/// A new seat that has taken in all these passes.
 fn gather_passes<S: Storied>(
     table: &LockTable<S>,
     passes: Vec<Pass<S::Entry, S::Frame>>,
@@ -252,7 +252,7 @@ fn gather_passes<S: Storied>(
     seat
 }
 
-// The maker puts the state home and passes the turn on.
+/// The maker puts the state home and passes the turn on.
 fn put_home<S: Storied>(table: &LockTable<S>, wakeups: &Wakeups, seat: &mut LockSeat<S>, state: S)
     requires lock { IsLockTable table.now.table_id × (seat.old.table_id ≡ table.now.table_id) }
     requires maker { seat.old.me ≡ (maker (S.frame state) table.now.key.1, []) }
@@ -266,7 +266,7 @@ fn put_home<S: Storied>(table: &LockTable<S>, wakeups: &Wakeups, seat: &mut Lock
     pass_turn_on(table, wakeups, seat);
 }
 
-// Makes all passes, in order.
+/// Makes all passes, in order of their callers.
 fn make_passes<S: Storied>(
     table: &LockTable<S>,
     mut seat: LockSeat<S>,

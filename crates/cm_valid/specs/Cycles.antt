@@ -1,5 +1,6 @@
 -- Inside.
--- Declarations in which nothing depends on a child, so that nothing depends on itself.
+-- Declarations in which nothing depends on a child, so that nothing depends on itself and no graph has
+-- to be made.
 use Rattle.std.specs.Prelude.{Bool, ◌&&◌, ◌||◌}
 use Rattle.std.specs.List.{list_any}
 use Rattle.cm_names.specs.declared.dependency.Dependency.{Dependency}
@@ -7,7 +8,7 @@ use Rattle.cm_decl.specs.declared.decl.Decl.{Decl}
 use Rattle.cm_decl.specs.declared.origin.Origin.{Origin}
 use Rattle.cm_decl.specs.Graph.{is_strong, is_from_child}
 
--- whether a row from there strongly depends on a child
+-- whether a use or an offer of this kind depends strongly on a child
 abbrev pub binds_child : Dependency → Origin → Bool
 binds_child dependency from = is_strong dependency && is_from_child from
 

@@ -1,5 +1,5 @@
 -- Inside.
--- The first fault in a part of a declaration, as it is found.
+-- The first fault of a part of a declaration, as the check finds it part by part.
 use Rattle.std.specs.Prelude.{◌≡◌, ℕ, ◌<◌, [], length, Option, option_map}
 use Rattle.cm_decl.specs.declared.decl.Decl.{Decl}
 use Rattle.cm_decl.specs.declared.rows.Child.{Child}
@@ -15,7 +15,7 @@ use Rattle.cm_valid.specs.Keys.{usage_key, offer_key}
 use Rattle.cm_valid.specs.Near.{KeysAreApart}
 use Rattle.cm_valid.specs.declared.found.FoundFault.{FoundFault}
 
--- the fault that was found
+-- the fault that was found, as definitions have it
 abbrev pub fault_of : FoundFault → DeclFault
 fault_of found = record {
   number = found.number;
@@ -25,27 +25,28 @@ fault_of found = record {
   cycle = [];
 }
 
--- what was found is the first fault of those in a part of the declaration, or there is none in this part
+-- what was found is the first fault of a part of the declaration, for which In holds; or there is none
+-- in it
 abbrev pub FindsFault : Decl → (DeclFault → Type 0) → Option FoundFault → Type 0
 FindsFault d In found = IsFirstIn d In (option_map fault_of found)
 
--- at a row
+-- the fault is that of this row
 abbrev pub At : Section → ℕ → DeclFault → Type 0
 At section i f = (f.section ≡ section) × (f.index ≡ i)
 
--- at the first n rows of a section
+-- the fault is that of one of the first n rows of this section
 abbrev pub Below : Section → ℕ → DeclFault → Type 0
 Below section n f = (f.section ≡ section) × (f.index < n)
 
--- in a section
+-- the fault is one of this section
 abbrev pub In : Section → DeclFault → Type 0
 In section f = f.section ≡ section
 
--- in the sections before the k-th
+-- the fault is one of the sections before the k-th, in the order of telling
 abbrev pub Before : ℕ → DeclFault → Type 0
 Before k f = section_rank f.section < k
 
--- anywhere
+-- holds of every fault of a row, wherever it is
 abbrev pub Anywhere : DeclFault → Type 0
 Anywhere f = Unit {0}
 
@@ -59,7 +60,7 @@ rows_of d Offers = length d.offers
 rows_of d Exposes = length d.exposes
 rows_of d section = 0
 
--- of the first n rows of a section no two may clash
+-- no two of the first n rows of this section can clash
 abbrev pub ApartIn : Decl → Section → ℕ → Type 0
 ApartIn d Children n = KeysAreApart (λ (k : Child). k.name) d.children n
 ApartIn d Collections n = KeysAreApart (λ (k : Collection). k.name) d.collections n

@@ -1,5 +1,5 @@
 -- Promised.
--- How a fault is written.
+-- How a fault of a declaration is printed.
 use Rattle.std.specs.Prelude.{ℕ, List, [], ◌++◌, codes, decimal, flat_map, Option, Some, None}
 use Rattle.cm_decl.specs.declared.node.Node.{Node}
 use Rattle.cm_decl.specs.declared.section.Section.{Section}
@@ -16,11 +16,12 @@ against_text (Some place) = codes " " ++ (section_word place.0 ++ (codes " " ++ 
 abbrev pub spaced : Node → List ℕ
 spaced node = codes " " ++ node_text node
 
--- the nodes of a cycle, each behind a space
+-- the nodes of a cycle, each after a space
 abbrev pub cycle_text : List Node → List ℕ
 cycle_text cycle = flat_map spaced cycle
 
--- `invalid NUMBER SECTION INDEX`, then the other row and the nodes of the cycle, where there are some
+-- a fault as it is printed: `invalid NUMBER SECTION INDEX`, then the row that it clashes with and the
+-- nodes of a cycle, where there are some
 abbrev pub fault_text : ValidFault → List ℕ
 fault_text (Bad number section index against cycle) =
     codes "invalid " ++ (decimal number ++ (codes " " ++ (section_word section

@@ -64,6 +64,7 @@ impl From<Memory> for ValidFault {
 
     ghost from_gives = { λ _ e. e ≡ OutOfMemory };
 
+    /// For `?` after a call that lacked memory.
     fn from(_: Memory) -> ValidFault {
         ValidFault::Memory
     }
@@ -75,6 +76,8 @@ impl fmt::Display for ValidFault {
 
     ghost output = { λ fault. Some (fault_text fault) };
 
+    /// Writes `invalid NUMBER SECTION INDEX`, then the row that it clashes with and the nodes of a
+    /// cycle, where there are some.
     fn fmt<W: fmt::Write>(&self, f: &mut fmt::Formatter<W>) -> fmt::Result {
         match self {
             ValidFault::Bad {
@@ -93,7 +96,7 @@ impl fmt::Display for ValidFault {
     }
 }
 
-/// Writes the place of the row that a fault clashes with, behind a space.
+/// Writes the place of the row that a fault clashes with, after a space.
 fn write_against<W: fmt::Write>(
     against: &Option<(Section, u32)>,
     f: &mut fmt::Formatter<W>,
@@ -106,7 +109,7 @@ fn write_against<W: fmt::Write>(
     }
 }
 
-/// Writes the nodes of a cycle, each behind a space.
+/// Writes the nodes of a cycle, each after a space.
 fn write_cycle<W: fmt::Write>(cycle: &List<Node>, f: &mut fmt::Formatter<W>) -> fmt::Result
     ensures { DisplaysOnOk W.write_str_gives f.old result (Some (cycle_text cycle.now)) f.new }
 {

@@ -13,6 +13,7 @@ use std::marker::Model;
 /// A declaration with its names laid out for look-up, which contracts see as the declaration.
 #[derive(Drop)]
 pub struct NameIndex<'a> {
+    /// The declaration whose names these are.
     decl: &'a Decl,
     children: Names<'a>,
     collections: Names<'a>,

@@ -32,6 +32,7 @@ fn zeroed(alloc: Global, path: &str) -> Result<Bytes, Memory>
 impl Keyed for Child {
     ghost key = { λ child. child.name };
 
+    /// Children clash by their names.
     fn key(&self, alloc: Global) -> Result<Bytes, Memory> {
         bytes_of(alloc, self.name.as_str())
     }
@@ -41,6 +42,7 @@ impl Keyed for Child {
 impl Keyed for Collection {
     ghost key = { λ collection. collection.name };
 
+    /// Collections clash by their names.
     fn key(&self, alloc: Global) -> Result<Bytes, Memory> {
         bytes_of(alloc, self.name.as_str())
     }
@@ -50,18 +52,20 @@ impl Keyed for Collection {
 impl Keyed for Capability {
     ghost key = { λ capability. capability.name };
 
+    /// Capabilities clash by their names.
     fn key(&self, alloc: Global) -> Result<Bytes, Memory> {
         bytes_of(alloc, self.name.as_str())
     }
 }
 
-/// A use clashes by its path. With a zero for each slash, what lies inside a path goes on behind
+/// A use clashes by its path. With a zero for each slash, what lies inside a path goes on after
 /// it with a zero.
 impl Keyed for Usage {
     ghost use Rattle.cm_valid.specs.Keys.{usage_key};
 
     ghost key = { usage_key };
 
+    /// Uses clash by their paths, and where one path lies inside another.
     fn key(&self, alloc: Global) -> Result<Bytes, Memory> {
         zeroed(alloc, self.path.as_str())
     }
@@ -73,6 +77,7 @@ impl Keyed for Offer {
 
     ghost key = { offer_key };
 
+    /// Offers clash by their target and their name there.
     fn key(&self, alloc: Global) -> Result<Bytes, Memory> {
         let mut bytes = bytes_of(alloc, self.to.as_str())?;
         bytes.push(b'/')?;
@@ -85,6 +90,7 @@ impl Keyed for Offer {
 impl Keyed for Give {
     ghost key = { λ give. give.target_name };
 
+    /// Exposes clash by their names at the target.
     fn key(&self, alloc: Global) -> Result<Bytes, Memory> {
         bytes_of(alloc, self.target_name.as_str())
     }

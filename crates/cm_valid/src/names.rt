@@ -27,7 +27,7 @@ impl<'a> Model for Names<'a> {
 }
 
 impl<'a> Names<'a> {
-    /// The set of no name.
+    /// The empty set of names.
     pub fn new(alloc: Global) -> Names<'a>
         ensures { result ≡ [] }
     {
@@ -53,7 +53,7 @@ impl<'a> Names<'a> {
     }
 }
 
-/// The names of the children.
+/// The set of the children's names. `Err` comes where memory runs out.
 pub(crate) fn child_names(alloc: Global, children: &[Child]) -> Result<Names<'_>, Memory>
     ensures { IfOk result (λ names. (name : List ℕ) →
         has names name ≡ list_any (λ k. bytes_eq k.name name) children.now) }
@@ -65,7 +65,7 @@ pub(crate) fn child_names(alloc: Global, children: &[Child]) -> Result<Names<'_>
     Ok(names)
 }
 
-/// The names of the collections.
+/// The set of the collections' names. `Err` comes where memory runs out.
 pub(crate) fn collection_names(
     alloc: Global,
     collections: &[Collection],

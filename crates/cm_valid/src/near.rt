@@ -32,7 +32,7 @@ pub(crate) fn apart<T: Keyed>(alloc: Global, rows: &[T]) -> Result<usize, Memory
     Ok(apart_keys(keys.as_slice()))
 }
 
-/// The keys of the rows.
+/// A key for each row, by which clashes are found. `Err` comes where memory runs out.
 fn keys_of<T: Keyed>(alloc: Global, rows: &[T]) -> Result<Vec<RowKey>, Memory>
     ensures { IfOk result (λ keys. AreKeys T.key rows.now keys.items) }
 {
@@ -46,7 +46,7 @@ fn keys_of<T: Keyed>(alloc: Global, rows: &[T]) -> Result<Vec<RowKey>, Memory>
 
 /// The least row whose key is near the key of an earlier row.
 ///
-/// In this order all texts that a text covers stand right behind it. Of two rows whose texts are
+/// In this order all texts that a text covers stand right after it. Of two rows whose texts are
 /// near, the later one bounds the answer, so only the earlier one needs to be kept in mind.
 fn apart_keys(keys: &[RowKey]) -> usize
     requires { IsInOrder keys.now }
@@ -69,7 +69,7 @@ fn apart_keys(keys: &[RowKey]) -> usize
     apart
 }
 
-/// Whether the second text is the first, or goes on behind it with a zero.
+/// Whether the second text is the first, or goes on after it with a zero.
 fn covers(outer: &[u8], inner: &[u8]) -> bool
     ensures { result ≡ spec.covers outer.now inner.now }
 {

@@ -144,14 +144,14 @@ fn is_never_parent(exposes: &[Give]) -> bool
     exposes.iter().all(|give| !is_parent(&give.from))
 }
 
-/// Whether it is `void`.
+/// Whether a source is `void`, from which no use may be.
 fn is_void(from: &Origin) -> bool
     ensures { result ≡ valid.is_void from.now }
 {
     matches!(from, Origin::Void)
 }
 
-/// Whether it is `parent`.
+/// Whether a source is `parent`, from which no expose may be.
 fn is_parent(from: &Origin) -> bool
     ensures { result ≡ valid.is_parent from.now }
 {
@@ -217,7 +217,7 @@ pub fn check(alloc: Global, decl: &Decl) -> Result<(), ValidFault>
 }
 
 impl ValidDecl {
-    /// The declaration.
+    /// The declaration that was found valid, borrowed.
     pub fn decl(&self) -> &Decl
         ensures same { result.now ≡ self.now }
         ensures valid { IsValid self.now }
@@ -225,7 +225,7 @@ impl ValidDecl {
         &self.decl
     }
 
-    /// The declaration.
+    /// The declaration that was found valid.
     pub fn into_decl(self) -> Decl
         ensures same { result ≡ self }
         ensures valid { IsValid result }

@@ -7,6 +7,7 @@ use Rattle.std.specs.BTreeSet.{BTreeSet, contains}
 use Rattle.cm_world.specs.declared.row.Row.{Row}
 use Rattle.cm_world.specs.Rows.{row_of, has_parent}
 
+-- whether an instance is in the set
 abbrev pub is_in_set : BTreeSet ℕ → ℕ → Bool
 is_in_set set i = contains nat_cmp set i
 

@@ -20,21 +20,21 @@ use Rattle.cm_world.specs.Located.{located_from}
 use Rattle.cm_world.specs.Offering.{told_index}
 use Rattle.cm_world.specs.Route.{IsWalked}
 
--- no use of the instance has the path, or no offer the index; a start at an expose has none to look for
+-- the start of a walk names a use or an offer that isn't there; one at an expose has none to look for
 abbrev pub HasNoUse : List Row → Start → Type 0
 HasNoUse rows (UseAt i path) =
     option_and_then (λ d. find (λ u. bytes_eq u.path path) d.uses) (decl_of rows i) ≡ None
 HasNoUse rows (ExposeAt i name) = ⊥
 HasNoUse rows (OfferAt i k) = option_and_then (λ d. slice_get d.offers k) (decl_of rows i) ≡ None
 
--- a walk says that there is no such use exactly where no use has the path, or no offer the index
+-- a walk says that there is no such use exactly where there is none
 abbrev pub SaysNoUse : Type 0
 SaysNoUse =
     (rows : List Row) (builtins : List Builtin) (begin : Start) (v : Walked)
     → IsWalked rows builtins begin v → (v ≡ NoSuchUse) ↔ HasNoUse rows begin
 
--- the reply to a find of these names, by where they lead; where one is missing, it is told with those before
--- it, of which there may be more than are told
+-- the reply to a find of these names, by where they lead; where one is missing, it is told with those
+-- before it, even if they are more than can be told
 abbrev pub IsFindReply : List Row → List ChildName → Located → Reply → Type 0
 IsFindReply rows names (located.Found i) r = r ≡ reply.Found i
 IsFindReply rows names (located.Unresolved i) r =

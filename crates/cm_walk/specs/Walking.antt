@@ -1,5 +1,5 @@
 -- Inside.
--- How far a walk has come.
+-- How far a walk along a route has come, and what the code's values stand for in the definitions.
 use Rattle.std.specs.Prelude.{◌≡◌, ℕ, List, [], ◌∷◌, ◌++◌, Bool, true, false, Option, Some, None, map}
 use Rattle.std.specs.Prelude.{filter_map, option_and_then}
 use Rattle.cm_names.specs.declared.availability.Availability.{Availability}
@@ -33,12 +33,12 @@ use Rattle.cm_walk.specs.declared.walking.Begun.TheVariants as begun
 
 -- ---- what the code's values stand for
 
--- where the row of a station says that the capability comes from; an end has no such row
+-- the source that the row of a station names; an end has none
 abbrev pub origin_of : StationSource → Option Origin
 origin_of (FromRow from name subdir) = Some from.now
 origin_of (End path) = None
 
--- the name there
+-- the name that the capability has at that source
 abbrev pub name_of : StationSource → List ℕ
 name_of (FromRow from name subdir) = name.now
 name_of (End path) = []
@@ -48,12 +48,12 @@ abbrev pub subdir_of : StationSource → Option (List ℕ)
 subdir_of (FromRow from name subdir) = subdir.now
 subdir_of (End path) = None
 
--- the path that an end provides
+-- the path that an end of a route provides
 abbrev pub end_of : StationSource → List ℕ
 end_of (FromRow from name subdir) = []
 end_of (End path) = path
 
--- the station with its hop and source
+-- the station that the code's station stands for
 abbrev pub as_station : HopStation → world.Station
 as_station s = record {
   hop = s.hop;
@@ -63,7 +63,7 @@ as_station s = record {
   path = end_of s.source;
 }
 
--- what comes behind a station
+-- what follows a station, as the code tells it
 abbrev pub as_next : NextOnWalk → spec.NextStation
 as_next (To s) = spec.To (as_station s)
 as_next (Ends path) = spec.Ends
@@ -72,22 +72,22 @@ as_next FromVoid = spec.FromVoid
 as_next NoChild = spec.NoChild
 as_next (Misses hop why) = spec.Misses hop why
 
--- the path of an end is that of its station
+-- the path that is told of an end is that of its station
 abbrev pub EndsAt : world.Station → NextOnWalk → Type 0
 EndsAt s (Ends path) = path ≡ s.path
 EndsAt s _ = Unit {0}
 
--- what a start names
+-- what the start of a walk names, as the code tells it
 abbrev pub as_named : Begun → Named
 as_named (begun.At s) = First (as_station s)
 as_named begun.NoUse = NoUse
 as_named (begun.NoneExposed hop) = NoneExposed hop
 
--- a hop tells where its instance stands in the tree
+-- a hop tells its instance's moniker rightly
 abbrev pub IsHopPlaced : List Row → Hop → Type 0
 IsHopPlaced rows hop = hop.moniker ≡ moniker_of rows hop.inc
 
--- whether it is a child that isn't there
+-- whether what follows a station is a child that isn't there
 abbrev pub is_no_child : spec.NextStation → Bool
 is_no_child spec.NoChild = true
 is_no_child _ = false
@@ -99,12 +99,11 @@ abbrev pub begins_with_use : List world.Station → Bool
 begins_with_use [] = false
 begins_with_use (s ∷ ss) = is_use s.hop.step
 
--- what stands at a station that states this, behind one where that stands
+-- the availability that holds after a station which states this, where that held before it
 abbrev pub standing_by : Option Availability → Option Availability → Option Availability
 standing_by before stated = or_else (option_and_then stated_itself stated) before
 
--- the trail keeps of the stations of the prefix what s, which is tried now, and those ahead of
--- it are judged by
+-- the trail keeps of the stations before s all by which s and later ones are judged
 pub record IsBehind (prefix : List world.Station) (s : world.Station) (t : Trail) : Type 0 where
   pub hops : t.hops ≡ map (λ x. x.hop) prefix
   pub subdirs : t.subdirs ≡ filter_map (λ x. x.subdir) prefix
@@ -112,31 +111,33 @@ pub record IsBehind (prefix : List world.Station) (s : world.Station) (t : Trail
   pub from_use : t.from_use ≡ begins_with_use (prefix ++ s ∷ [])
   pub asked : t.asked ≡ asked_rights (prefix ++ s ∷ [])
 
--- what is said by the next of a station: to go on to another behind this trail, or an answer
+-- what the next of a station decides: the walk goes on to another station with this trail, or has an
+-- answer
 abbrev pub NextLeads : List world.Station → world.Station → spec.NextStation → Trail → Step → Type 0
 NextLeads prefix s next t (On u) = (next ≡ spec.To (as_station u))
     × IsBehind (prefix ++ s ∷ []) (as_station u) t
 NextLeads prefix s next t (Done v) = said_by prefix s next ≡ Some v
 
--- what refuses a station before its next is looked at: a child that isn't there, or a hop that is too weak
+-- what refuses a station before its next is looked at: a child that isn't there, or a hop that is too
+-- weak
 abbrev pub refused : List world.Station → world.Station → spec.NextStation → Option Walked
 refused prefix s spec.NoChild = Some (Failed s.hop NoInstance)
 refused prefix s _ = or_else (weak_availability prefix s) (weak_rights prefix s)
 
--- what is decided at a station whose next this is
+-- what is decided at a station with this next: the walk goes on with this trail, or has an answer
 abbrev pub Decides : List world.Station → world.Station → spec.NextStation → Trail → Step → Type 0
 Decides prefix s next t (On u) =
     (trial_by prefix s next ≡ None) × (next ≡ spec.To (as_station u))
     × IsBehind (prefix ++ s ∷ []) (as_station u) t
 Decides prefix s next t (Done v) = trial_by prefix s next ≡ Some v
 
--- what is decided at a station: nothing, and the walk goes on to the next one, or an answer
+-- one step of a walk in this tree: it goes on to the next station with this trail, or has an answer
 abbrev pub StepsAlong : List Row → List Builtin → List world.Station → world.Station → Trail → Step → Type 0
 StepsAlong rows builtins prefix s t (On u) =
     (trial rows builtins prefix s ≡ None) × (spec.next_of rows builtins s ≡ spec.To (as_station u))
     × IsBehind (prefix ++ s ∷ []) (as_station u) t
 StepsAlong rows builtins prefix s t (Done v) = trial rows builtins prefix s ≡ Some v
 
--- where a capability stands at its provider, with the subdirectories from there on
+-- the path of a capability with the subdirectories from its provider on
 abbrev pub path_at : StepKind → List ℕ → List (List ℕ) → List ℕ
 path_at step path subdirs = elim step as (λ _. List ℕ) [ FrameworkHop ↦ path | _ ↦ joined_text path subdirs ]

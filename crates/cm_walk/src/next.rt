@@ -1,4 +1,4 @@
-//! What comes behind a station of a route.
+//! What comes after a station of a route.
 
 ghost use Rattle.std.specs.Prelude.{◌≡◌, IfOk, Some, option_and_then};
 ghost use Rattle.std.specs.Option.{option_copied};
@@ -20,7 +20,7 @@ use cm_names::{CapPath, ChildName, Memory, Name};
 use cm_world::{Hop, StepKind, View, Why};
 use std::alloc::Global;
 
-/// What comes behind a station.
+/// What comes after a station.
 #[derive(Drop)]
 pub(crate) enum NextOnWalk<'a> {
     /// Another station.
@@ -49,7 +49,7 @@ impl<'a> NextOnWalk<'a> {
     }
 }
 
-/// What comes behind the station. `Err` where memory runs out.
+/// What comes after the station. `Err` where memory runs out.
 pub(crate) fn next_of<'a, V: View>(
     alloc: Global,
     view: &'a V,

@@ -1,4 +1,4 @@
-//! What a walk keeps of the hops behind it, and how it judges the next one.
+//! What a walk keeps of the hops that it has passed, and how it judges the next one.
 
 ghost use Rattle.std.specs.Prelude.{◌≡◌, ◌++◌, ◌∷◌, [], List as Seq, IfOk, OnOk, None, reverse};
 ghost use Rattle.std.specs.Prelude.{option_map, option_to_list, if◌then◌else◌};
@@ -18,7 +18,7 @@ use std::mem;
 /// For so many hops a trail has room at first: those of a use, of an offer and of the capability.
 const FIRST_ROOM: usize = 3;
 
-/// What is kept of the stations behind the one that is tried.
+/// What is kept of the stations before the one that is tried.
 #[derive(Drop)]
 pub(crate) struct Trail {
     /// Their hops, from the start on.
@@ -133,7 +133,7 @@ impl Trail {
     }
 }
 
-/// The availability that stands at a hop which states this one, behind a hop where that one stands.
+/// The availability that stands at a hop which states this one, after a hop where that one stands.
 fn standing_then(before: Option<Availability>, stated: Option<Availability>) -> Option<Availability>
     ensures { result ≡ standing_by before stated }
 {
@@ -203,7 +203,7 @@ fn provider(hop: &Hop) -> Result<Provider, Memory>
     }
 }
 
-/// Where the capability stands at its provider: the end's path with the subdirectories behind it,
+/// Where the capability stands at its provider: the end's path with the subdirectories after it,
 /// the last one first. What the framework provides has its path alone.
 fn path_at(
     alloc: Global,

@@ -210,7 +210,7 @@ fn follow<'a, V: View>(alloc: Global, view: &'a V, first: HopStation<'a>) -> Res
     }
 }
 
-/// Tries the station behind this trail, and goes on to the next one where nothing is decided.
+/// Tries the station after this trail, and goes on to the next one where nothing is decided.
 fn try_station<'a, V: View>(
     alloc: Global,
     view: &'a V,

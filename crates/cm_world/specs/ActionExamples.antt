@@ -17,21 +17,22 @@ use Rattle.cm_world.specs.declared.reply.Reply.TheVariants as reply
 use Rattle.cm_world.specs.declared.reply.Entry.{Entry}
 use Rattle.cm_world.specs.Examples.{c, l, s, x, s_path, entry, entry_of, at_child, resolving, whole_route}
 
--- a start of the logger, and of the client
+-- the work of a start of the logger, under this action's number
 abbrev pub starting_logger : ℕ → Work
 starting_logger action = record (resolving action 1 (at_child l) [] (76 ∷ [])) { runner = Some (101 ∷ []) }
 
+-- the work of a start of the client, under this action's number
 abbrev pub starting_client : ℕ → Work
 starting_client action = record (resolving action 2 (at_child c) [] (67 ∷ [])) { runner = Some (101 ∷ []) }
 
--- one caller begins a start of the logger, and another joins it
+-- caller 0 begins a start of the logger, and caller 1 joins it
 abbrev pub joined_entries : List Entry
 joined_entries =
     entry (Begin Start 1) (reply.Begun (starting_logger 4))
     ∷ entry_of 1 (Begin Start 1) (reply.Joined 4)
     ∷ []
 
--- the start fails for both
+-- the start that they share fails: the beginner is told when it ends, the other when it awaits it
 abbrev pub failed_entries : List Entry
 failed_entries =
     entry (End 4 (Other outcome.GateFailed)) (reply.Ended outcome.GateFailed)
@@ -55,9 +56,10 @@ opened_entries =
 
 -- ---- a child that was created
 
+-- the child x with incarnation 1, as a listing of its collection tells it
 abbrev pub x_kid : Kid
 x_kid = record { name = x; inc = 1 }
 
--- offers to one child alone
+-- offers that a new child in a collection is given when it is created
 abbrev pub given : List Give
 given = give s Own Strong Required ∷ []

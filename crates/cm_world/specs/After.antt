@@ -26,10 +26,12 @@ use Rattle.cm_world.specs.Create.{created_row}
 use Rattle.cm_world.specs.Expiring.{expired, expired_by}
 use Rattle.cm_world.specs.Step.{is_join}
 
+-- the record of an action that was just begun: its number, its kind, its row and its beginner; it has
+-- no outcome yet
 abbrev pub new_act : ℕ → ActKind → ℕ → ℕ → Act
 new_act action kind i caller = record { action = action; kind = kind; inc = i; by = caller; outcome = None }
 
--- an action begins at a row
+-- the world in which an action begins at a row: the row is pending, and the next free number is taken
 abbrev pub with_action : World → ℕ → ActKind → ℕ → World
 with_action w caller kind i = record w {
   rows = changed i (set_pending (Some (kind, w.next_action))) w.rows;
@@ -37,8 +39,8 @@ with_action w caller kind i = record w {
   acts = w.acts ++ new_act w.next_action kind i caller ∷ [];
 }
 
--- an action of this number ends with an outcome, if it was begun; it names its row, and where that is
--- stopped so, what goes with it is doomed
+-- the world after the end of an action, whose record is given where the number was ever given out.
+-- The record names the row that changes; where the end stops that row, what expires with it is doomed
 abbrev pub with_end_of : World → ℕ → Finish → Outcome → Option Act → World
 with_end_of w a finish o None = w
 with_end_of w a finish o (Some x) = record w {
@@ -47,40 +49,44 @@ with_end_of w a finish o (Some x) = record w {
   acts = ended a o w.acts;
 }
 
--- the tree behind the end of an action, which is looked up by its number
+-- the world after the end of the action with this number
 abbrev pub with_end : World → ℕ → Finish → Outcome → World
 with_end w a finish o = with_end_of w a finish o (act_of w.acts a)
 
 -- ---- joins
 
--- with this one, which stands there once however often it is made
+-- the joins with one more, which stands there once however often it is made
 abbrev pub joined : ℕ → ℕ → List Join → List Join
 joined caller action joins =
     if list_any (is_join caller action) joins then joins
     else joins ++ record { caller = caller; action = action } ∷ []
 
+-- the joins without this caller's join of the action, which was awaited
 abbrev pub unjoined : ℕ → ℕ → List Join → List Join
 unjoined caller action joins = drop_first (is_join caller action) joins
 
+-- the world with these joins, all else as before
 abbrev pub with_joins : World → List Join → World
 with_joins w joins = record w { joins = joins }
 
 -- ---- rows
 
+-- the world with these rows, all else as before
 abbrev pub with_rows : World → List Row → World
 with_rows w rows = record w { rows = rows }
 
--- a new row stands last
+-- the world with one more row, which stands last and takes the next incarnation
 abbrev pub with_row : World → Row → World
 with_row w r = record w { rows = w.rows ++ r ∷ []; next_inc = w.next_inc + 1 }
 
--- the rows that aren't at or below one
+-- the rows that are left when a row goes with all below it
 abbrev pub others_than : List Row → ℕ → List Row
 others_than rows top = filter (λ r. not (is_below rows top r.inc)) rows
 
 -- ---- entries
 
--- what an event with its reply changes, but for the number of entries
+-- what an entry changes in the world, but for the count of entries; an event whose reply only tells
+-- something changes nothing
 abbrev pub moved : World → ℕ → Event → Reply → World
 moved w caller (Begin kind i) (reply.Begun work) = with_action w caller kind i
 moved w caller (Begin kind i) (reply.Joined a) = with_joins w (joined caller a w.joins)
@@ -96,13 +102,14 @@ moved w caller (Purge i) (reply.Purged lost) = with_rows w (others_than w.rows i
 moved w caller (Exited i) (reply.Left m) = with_rows w (expired i (changed i (set_on false) w.rows))
 moved w caller event r = w
 
+-- the world with one more entry counted
 abbrev pub counted : World → World
 counted w = record w { entries = w.entries + 1 }
 
--- the world that an entry leaves
+-- the world that an entry leaves: what its event and reply change, and one more entry
 unfoldable pub after : World → Entry → World
 after w e = counted (moved w e.caller e.event e.reply)
 
--- an entry dooms a row: it isn't doomed before, and is behind
+-- whether this entry is the one that dooms a row: it isn't doomed before, and is afterwards
 abbrev pub dooms : World → Entry → ℕ → Bool
 dooms w e i = not (has_doomed w.rows i) && has_doomed (after w e).rows i

@@ -1,6 +1,5 @@
 -- Inside.
--- The world that an entry leaves.
--- ---- actions
+-- Which entries change more than the count of entries.
 use Rattle.std.specs.Prelude.{Bool, true, false}
 use Rattle.cm_world.specs.declared.reply.Reply.{Reply}
 use Rattle.cm_world.specs.declared.reply.Reply.TheVariants as reply
@@ -8,7 +7,8 @@ use Rattle.cm_world.specs.declared.event.Event.{Event}
 use Rattle.cm_world.specs.declared.event.Event.TheVariants.{Begin, End, Await, Create, Mark, Pick, Purge}
 use Rattle.cm_world.specs.declared.event.Event.TheVariants.{Exited}
 
--- whether an event with its reply may change more than that number
+-- whether an event with this reply may change the rows, the actions or the joins, and not only the
+-- count of entries
 abbrev pub moves : Event → Reply → Bool
 moves (Begin kind i) (reply.Begun work) = true
 moves (Begin kind i) (reply.Joined a) = true

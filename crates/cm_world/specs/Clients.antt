@@ -10,8 +10,8 @@ use Rattle.cm_world.specs.Rows.{moniker_of}
 use Rattle.cm_world.specs.Stations.{Station}
 use Rattle.cm_world.specs.Route.{IsRoute, last_of, provider_of}
 
--- another instance, some use of which has a route of strong hops that ends here; whether the
--- route gives anything doesn't matter
+-- instance x is a client of instance y, another one: some use of x has a route of strong hops that
+-- ends at y. Whether the route would be given to x doesn't matter. The clients of y stop before y does
 pub record IsClient (rows : List Row) (builtins : List Builtin) (x y : ℕ) : Type 0 where
   pub differ : x ≢ y
   pub path : List ℕ

@@ -1,5 +1,5 @@
 -- Promised.
--- The reply to a create.
+-- The reply to a create, which adds a child to a collection of its parent.
 use Rattle.std.specs.Prelude.{◌≡◌, ℕ, List, [], ◌∷◌, ◌++◌, Bool, true, false, not, ◌&&◌, Option, Some, None}
 use Rattle.std.specs.Prelude.{find, filter_map, is_some, option_map, option_and_then, if◌then◌else◌}
 use Rattle.std.specs.Str.{bytes_eq}
@@ -19,15 +19,18 @@ use Rattle.cm_world.specs.declared.reply.Reply.TheVariants.{OffersRefused, BadOf
 use Rattle.cm_world.specs.Rows.{decl_of, child_of, has_parent, is_gone, is_closed}
 use Rattle.cm_world.specs.World.{new_row, rows_fit}
 
--- the name of a child in a collection
+-- the name of a child in a collection: the collection's, and its own
 abbrev pub dynamic_name : List ℕ → List ℕ → ChildName
 dynamic_name coll name = record { coll = Some coll; name = name }
 
+-- the collection of this name in a declaration, if it has one
 abbrev pub collection_of : Decl → List ℕ → Option Collection
 collection_of d coll = find (λ c. bytes_eq c.name coll) d.collections
 
 -- ---- the children in collections
 
+-- a row named c as a child of p in a collection, with what it was offered when it was created; none
+-- for a doomed row, another's child, or a declared one
 abbrev pub dynamic_by : ℕ → Row → ChildName → Option DynChild
 dynamic_by p r c =
     if has_parent p r && is_some c.coll && not r.doomed then Some (record { name = c; gives = r.gives })
@@ -37,19 +40,23 @@ dynamic_by p r c =
 abbrev pub dynamic_of : ℕ → Row → Option DynChild
 dynamic_of p r = option_and_then (dynamic_by p r) r.name
 
+-- the children of p in collections that aren't doomed, as the realm graph of p's declaration takes
+-- them in
 abbrev pub dynamic_children : List Row → ℕ → List DynChild
 dynamic_children rows p = filter_map (dynamic_of p) rows
 
--- those and one more
+-- the children of p in collections, and the one that would be created
 abbrev pub dynamic_with : List Row → ℕ → ChildName → List Give → List DynChild
 dynamic_with rows p c gives = dynamic_children rows p ++ record { name = c; gives = gives } ∷ []
 
+-- whether p has a child of this name that isn't doomed
 abbrev pub is_child_there : List Row → ℕ → ChildName → Bool
 is_child_there rows p c = is_some (child_of rows p c)
 
 -- ---- what refuses a new child before its realm graph is looked at
 
--- offers of its own: the collection has to take some, and each has to keep the rules
+-- what refuses the offers that a new child would be given: its collection takes none, or one of them
+-- breaks the rules of offers
 abbrev pub refused_gives : List Row → ℕ → Decl → Collection → List Give → Option Reply
 refused_gives rows p d coll [] = None
 refused_gives rows p d coll (g ∷ gs) =
@@ -57,7 +64,7 @@ refused_gives rows p d coll (g ∷ gs) =
     then option_map (λ bad. BadOffer bad.0 bad.1) (bad_give d (is_child_there rows p) coll.name (g ∷ gs))
     else Some OffersRefused
 
--- in a collection that is there: a child of that name, then the offers
+-- what refuses a new child in a collection that is there: a child of that name, then its offers
 abbrev pub refused_name : List Row → ℕ → Decl → Collection → ChildName → List Give → Option Reply
 refused_name rows p d coll c gives =
     elim (child_of rows p c) as (λ _. Option Reply) [
@@ -65,7 +72,8 @@ refused_name rows p d coll c gives =
       | None ↦ refused_gives rows p d coll gives
     ]
 
--- by a declaration
+-- what refuses a new child by its parent's declaration: there is no such collection, or its name or
+-- offers
 abbrev pub refused_by : List Row → ℕ → Decl → List ℕ → List ℕ → List Give → Option Reply
 refused_by rows p d coll name gives =
     elim (collection_of d coll) as (λ _. Option Reply) [
@@ -73,7 +81,8 @@ refused_by rows p d coll name gives =
       | Some c ↦ refused_name rows p d c (dynamic_name coll name) gives
     ]
 
--- by a parent
+-- what refuses a create before the realm graph is looked at: the parent is gone, is being shut down or
+-- isn't resolved, or its declaration doesn't allow the child
 abbrev pub refused_create : List Row → ℕ → List ℕ → List ℕ → List Give → Option Reply
 refused_create rows p coll name gives =
     if is_gone rows p then Some (Gone p)
@@ -85,7 +94,8 @@ refused_create rows p coll name gives =
 
 -- ---- the reply
 
--- where nothing refuses it but the realm graph, which must have no cycle, or the room for rows
+-- the reply where nothing but the realm graph or the room is left to refuse: a cycle of strong edges
+-- that the child would close, no room for a row, or the incarnation of the new row
 abbrev pub Creates : ℕ → List Row → ℕ → Decl → List DynChild → Reply → Type 0
 Creates limit rows next d dynamic (Cycle nodes) = IsPickedCycle (is_strong_edge d dynamic) nodes
 Creates limit rows next d dynamic Full =
@@ -94,10 +104,14 @@ Creates limit rows next d dynamic (Created i) =
     NoCycle (StrongOn d dynamic) × (rows_fit limit rows next 1 ≡ true) × (i ≡ next)
 Creates limit rows next d dynamic _ = ⊥
 
+-- the reply where nothing but the realm graph or the room is left to refuse, by the parent's
+-- declaration, which is there
 abbrev pub CreatesUnder : ℕ → List Row → ℕ → Option Decl → List DynChild → Reply → Type 0
 CreatesUnder limit rows next None dynamic reply = ⊥
 CreatesUnder limit rows next (Some d) dynamic reply = Creates limit rows next d dynamic reply
 
+-- the reply to a create is the refusal, if there is one; else it is decided by the realm graph and the
+-- room
 abbrev pub CreatesUnless : ℕ → List Row → ℕ → ℕ → ChildName → List Give → Option Reply → Reply → Type 0
 CreatesUnless limit rows next p c gives (Some refusal) reply = reply ≡ refusal
 CreatesUnless limit rows next p c gives None reply =
@@ -109,6 +123,6 @@ IsCreateReply limit rows next p coll name gives reply =
     CreatesUnless limit rows next p (dynamic_name coll name) gives
     (refused_create rows p coll name gives) reply
 
--- the row of a new child
+-- the row of a child that was just created in a collection
 abbrev pub created_row : ℕ → ℕ → List ℕ → List ℕ → List ℕ → List Give → Row
 created_row i p coll name url gives = new_row i (Some p) (Some (dynamic_name coll name)) url gives

@@ -16,40 +16,44 @@ use Rattle.cm_world.specs.NextStation.{To, next_of}
 use Rattle.cm_world.specs.Route.{First, named_by, IsWalked}
 use Rattle.cm_world.specs.Sound.{IsOrderly}
 
+-- whether a hop is an expose, by which a walk goes down the tree
 abbrev pub is_expose : StepKind → Bool
 is_expose ExposeHop = true
 is_expose _ = false
 
--- at a row with this incarnation, below the next one: on the way down, or on the way up
+-- a bound of the steps that are left at incarnation i, below the next incarnation: on the way down
+-- (true), or still on the way up
 abbrev pub left_at : ℕ → ℕ → Bool → ℕ
 left_at next i true = (next - i) + 1
 left_at next i false = next + i + 2
 
+-- a bound of the steps that are left after a hop; none where it has no source
 abbrev pub left_from : ℕ → ℕ → StepKind → Option Origin → ℕ
 left_from next i step None = 0
 left_from next i step (Some from) = left_at next i (is_expose step)
 
--- at most so many stations come behind this one
+-- at most so many stations of a walk follow this one; next is the tree's next incarnation
 abbrev pub steps_left : ℕ → Station → ℕ
 steps_left next s = left_from next s.hop.inc s.hop.step s.source
 
+-- whether a source is the parent
 abbrev pub is_from_parent : Option Origin → Bool
 is_from_parent (Some Parent) = true
 is_from_parent _ = false
 
--- no expose leads up
+-- the station isn't an expose from the parent, so a walk that goes down never turns up again
 abbrev pub KeepsDown : Station → Type 0
 KeepsDown s = (is_from_parent s.source && is_expose s.hop.step) ≡ false
 
 -- ---- laws
 
--- a start leads to no expose that leads up
+-- the first station of a walk keeps down
 abbrev pub BeginsDown : Type 0
 BeginsDown =
     (rows : List Row) (next : ℕ) (begin : Start) (s : Station) → IsOrderly rows next
     → named_by rows begin ≡ First s → KeepsDown s
 
--- nor does a station, and fewer steps are left from the one behind it
+-- from a station that keeps down, the next one keeps down too and has fewer steps left
 abbrev pub StepsFall : Type 0
 StepsFall =
     (rows : List Row) (next : ℕ) (builtins : List Builtin) (s t : Station) → IsOrderly rows next

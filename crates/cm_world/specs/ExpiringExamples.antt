@@ -23,7 +23,7 @@ collecting_decl durability = record no_decl {
       record { name = k; durability = durability; dynamic_offers = false; environment = None } ∷ [];
 }
 
--- a start or a stop of the root
+-- the work of a start or a stop of the root
 abbrev pub root_work : ℕ → Work
 root_work action = resolving action 0 at_root [] root_url
 

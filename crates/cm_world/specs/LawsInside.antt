@@ -38,6 +38,6 @@ abbrev pub LegalGoesOn : Type 0
 LegalGoesOn =
     (w : World) (es : List Entry) (e : Entry) → Legal w es → IsStep (replay w es) e → Legal w (es ++ e ∷ [])
 
--- and then leaves the world behind that entry
+-- a history with one more entry leaves the world that the entry leaves
 abbrev pub ReplayGoesOn : Type 0
 ReplayGoesOn = (w : World) (es : List Entry) (e : Entry) → replay w (es ++ e ∷ []) ≡ after (replay w es) e

@@ -6,6 +6,6 @@ use Rattle.cm_decl.specs.RealmGraph.{Directly}
 use Rattle.cm_world.specs.declared.row.Row.{Row}
 use Rattle.cm_world.specs.Level.{level}
 
--- the first depends directly on the second, by a strong or an implied edge
+-- x depends on y at the level of p directly, by a strong edge or by one that the tree itself implies
 abbrev pub LevelOn : List Row → ℕ → ℕ → ℕ → Type 0
 LevelOn rows p x y = Directly (level rows p) x y

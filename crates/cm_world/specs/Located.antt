@@ -8,8 +8,8 @@ use Rattle.cm_world.specs.declared.store.Located.TheVariants.{Found, Unresolved,
 use Rattle.cm_world.specs.Offering.{told_index}
 use Rattle.cm_world.specs.Rows.{is_resolved, child_of}
 
--- where row i was reached by k names, and these are left; the number of names that are found is
--- told as an index is
+-- what looking a moniker up comes to, where row i was reached by k names and these are left: the row,
+-- how many names were found (kept within 32 bits), or the row that isn't resolved
 abbrev pub located_from : List Row → ℕ → ℕ → List ChildName → Located
 located_from rows i k [] = Found i
 located_from rows i k (c ∷ cs) =

@@ -1,5 +1,6 @@
 -- Promised.
--- The replies to a mark and to a purge.
+-- The replies to a mark, by which a shutdown or a destruction begins, and to a purge, which ends a
+-- destruction.
 use Rattle.std.specs.Prelude.{ℕ, List, Bool, false, Some, None, map, is_some, if◌then◌else◌}
 use Rattle.std.specs.Option.{option_map_or}
 use Rattle.cm_world.specs.declared.row.Row.{Row}
@@ -15,11 +16,12 @@ close_reply rows i =
     if is_gone rows i then Gone i
     else if has_closing rows i then Already else Marked
 
--- a child in a collection; the root and the children that are declared aren't
+-- whether a row is a child in a collection; only these may be destroyed
 abbrev pub is_dynamic : Row → Bool
 is_dynamic r = option_map_or (λ c. is_some c.coll) r.name false
 
--- a row that is doomed already goes before one that is gone since it is below a doomed one
+-- the reply to a mark to be destroyed. A row that is doomed itself is told so even where one above it
+-- is doomed too
 abbrev pub doom_reply : List Row → ℕ → Reply
 doom_reply rows i =
     elim (row_of rows i) as (λ _. Reply) [
@@ -33,7 +35,7 @@ doom_reply rows i =
 abbrev pub mark_reply : List Row → Bool → ℕ → Reply
 mark_reply rows doom i = if doom then doom_reply rows i else close_reply rows i
 
--- a row as a purge names it
+-- a row as a purge tells that it was removed
 abbrev pub lost_of : List Row → Row → Lost
 lost_of rows r = record { inc = r.inc; moniker = moniker_of rows r.inc }
 

@@ -13,7 +13,7 @@ use Rattle.cm_world.specs.NextStation.{is_offer_to}
 abbrev pub offer_index : Decl → Kind → List ℕ → ChildName → Option ℕ
 offer_index d kind name c = position (is_offer_to c kind name) d.offers
 
--- that of a row, in this declaration of its parent
+-- the index of the offer to a row, in this declaration of its parent
 abbrev pub index_for : Row → Kind → List ℕ → Decl → Option ℕ
 index_for r kind name d = option_and_then (offer_index d kind name) r.name
 
@@ -21,10 +21,12 @@ index_for r kind name d = option_and_then (offer_index d kind name) r.name
 abbrev pub told_index : ℕ → ℕ
 told_index k = min k (2 ^ 32 - 1)
 
--- the index in the declaration of a row's parent; none for the root, and where the parent isn't resolved
+-- the index of the offer to a row in its parent's declaration; none for the root, and where the parent
+-- isn't resolved
 abbrev pub offer_for : List Row → Kind → List ℕ → Row → Option ℕ
 offer_for rows kind name r = option_and_then (index_for r kind name) (option_and_then (decl_of rows) r.parent)
 
--- that of an incarnation, as it is told; none where it doesn't live
+-- the index of the offer to this incarnation in its parent's declaration, kept within 32 bits; none
+-- where it doesn't live
 abbrev pub offer_at : List Row → ℕ → Kind → List ℕ → Option ℕ
 offer_at rows i kind name = option_map told_index (option_and_then (offer_for rows kind name) (row_of rows i))

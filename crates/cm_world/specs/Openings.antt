@@ -16,18 +16,19 @@ use Rattle.cm_world.specs.declared.reply.Reply.TheVariants.{Opened}
 use Rattle.cm_world.specs.Rows.{is_gone, is_closed, is_on, is_shut, is_resolved}
 use Rattle.cm_world.specs.Route.{IsWalked}
 
--- what refuses every look at a row's declaration
+-- what refuses a reply that needs the row's declaration: the row is gone, is shut down unresolved, or
+-- must be resolved
 abbrev pub unready : List Row → ℕ → Option Reply
 unready rows i =
     if is_gone rows i then Some (Gone i)
     else if is_resolved rows i then None
     else if is_closed rows i then Some (Shut i) else Some (Need i)
 
--- what refuses an opening by a use; a client that isn't resolved is off
+-- what refuses an opening by a use: the client is gone, or it is off
 abbrev pub unopened : List Row → ℕ → Option Reply
 unopened rows i = if is_gone rows i then Some (Gone i) else if is_on rows i then None else Some ClientOff
 
--- what is made of a walk for one who asks for the route
+-- the reply to who asks for a route, by what the walk came to
 abbrev pub routed : List Row → Walked → Reply
 routed rows (walked.Given route) = Given route
 routed rows (walked.Failed hop why) = Failed hop why
@@ -35,19 +36,20 @@ routed rows (walked.Need j) = if is_closed rows j then SourceShut j else Need j
 routed rows (walked.Void hop) = Void hop
 routed rows walked.NoSuchUse = NoSuchUse
 
--- an instance that provides something has to be on
+-- the reply to who opens a route that was found: an instance that provides has to be on, so it may
+-- have to be started first, or it is being shut down
 abbrev pub opened_at : List Row → Route → Provider → Reply
 opened_at rows route (provider.Instance s moniker) =
     if is_shut rows s || (not (is_on rows s) && is_closed rows s) then SourceShut s
     else if is_on rows s then Opened route else NeedStart s
 opened_at rows route _ = Opened route
 
--- what is made of a walk for one who opens
+-- the reply to who opens, by what the walk came to
 abbrev pub opened : List Row → Walked → Reply
 opened rows (walked.Given route) = opened_at rows route route.provider
 opened rows w = routed rows w
 
--- the refusal, or what is made of the walk from a start
+-- the reply is the refusal, if there is one, else what is made of the walk from a start
 abbrev pub WalksUnless : List Row → List Builtin → Start → (Walked → Reply) → Option Reply → Reply → Type 0
 WalksUnless rows builtins begin make (Some refusal) reply = reply ≡ refusal
 WalksUnless rows builtins begin make None reply =

@@ -18,20 +18,23 @@ use Rattle.cm_world.specs.Openings.{unready}
 
 -- ---- the children in a collection
 
+-- row r, named c, as a child of p in this collection, if it is one that isn't doomed
 abbrev pub kid_by : ℕ → List ℕ → Row → ChildName → Option Kid
 kid_by p coll r c =
     if has_parent p r && option_eq bytes_eq c.coll (Some coll) && not r.doomed
     then Some (record { name = c.name; inc = r.inc })
     else None
 
--- a row as a child of p in a collection, if it is one that isn't doomed
+-- a row as a child of p in this collection, if it is one that isn't doomed
 abbrev pub kid_of : ℕ → List ℕ → Row → Option Kid
 kid_of p coll r = option_and_then (kid_by p coll r) r.name
 
+-- whether row i is resolved and declares this collection
 abbrev pub has_collection : List Row → ℕ → List ℕ → Bool
 has_collection rows i coll = is_some (option_and_then (λ d. collection_of d coll) (decl_of rows i))
 
--- by a declaration of row i, if it is resolved
+-- the reply to a listing at a resolved row: the children that aren't doomed, or that there is no such
+-- collection
 abbrev pub list_by : List Row → ℕ → List ℕ → Reply
 list_by rows i coll =
     if has_collection rows i coll then Listed (filter_map (kid_of i coll) rows) else NoCollection
@@ -43,7 +46,7 @@ list_reply rows i coll =
 
 -- ---- one instance
 
--- a row as it is shown, with the URL as declared
+-- a row as `show` tells it; the URL is as declared, not the absolute one
 abbrev pub look_at : Row → Look
 look_at r = record {
   inc = r.inc;
@@ -63,9 +66,11 @@ show_reply rows i =
 
 -- ---- an instance and all below it
 
+-- the paths that a row's declaration uses; none where it isn't resolved
 abbrev pub paths_used : Row → List (List ℕ)
 paths_used r = elim r.decl as (λ _. List (List ℕ)) [ None ↦ [] | Some d ↦ map (λ u. u.path) d.uses ]
 
+-- a row as a survey tells it
 abbrev pub survey_row : List Row → Row → SurveyRow
 survey_row rows r = record {
   inc = r.inc;
@@ -76,7 +81,7 @@ survey_row rows r = record {
   paths = paths_used r;
 }
 
--- those that aren't gone
+-- the reply to a survey: the instance and all below it that isn't gone
 abbrev pub survey_reply : List Row → ℕ → Reply
 survey_reply rows i =
     if is_gone rows i then Gone i
@@ -84,7 +89,8 @@ survey_reply rows i =
 
 -- ---- an exit, and the length of the history
 
--- or none where an action is pending; a row that is only doomed can exit
+-- the reply to who tells that a program ended by itself; none where an action is pending, for which
+-- the caller waits. A row that is only doomed can still exit
 abbrev pub exit_reply : List Row → ℕ → Option Reply
 exit_reply rows i =
     elim (row_of rows i) as (λ _. Option Reply) [
@@ -94,5 +100,6 @@ exit_reply rows i =
           else if r.on then Some (Left (moniker_of rows i)) else Some Already
     ]
 
+-- the reply to `events`: how many entries the history has, unless the instance is gone
 abbrev pub tail_reply : List Row → ℕ → ℕ → Reply
 tail_reply rows entries i = if is_gone rows i then Gone i else Tailed entries

@@ -29,7 +29,8 @@ use Rattle.cm_world.specs.NextStation.{NextStation, To, Ends, Needs, FromVoid, N
 
 -- ---- routes
 
--- what a start names
+-- what the start of a walk names: the first station of a route, a use that isn't there, or an expose
+-- that isn't
 pub data Named : Type 0 where
   First : Station → Named
   NoUse : Named
@@ -54,16 +55,18 @@ named_by rows (OfferAt i k) =
       | Some o ↦ First (offer_station rows i o.give)
     ]
 
--- each station is the next of the one before it
+-- each of these stations follows the one before it
 abbrev pub IsChain : List Row → List Builtin → Station → List Station → Type 0
 IsChain rows builtins s [] = Unit {0}
 IsChain rows builtins s (t ∷ ts) = (next_of rows builtins s ≡ To t) × IsChain rows builtins t ts
 
+-- the last station of a route
 abbrev pub last_of : Station → List Station → Station
 last_of s [] = s
 last_of s (t ∷ ts) = last_of t ts
 
--- the first station is what the start names, each other is the next of the one before, and the last is an end
+-- a route from this start: its first station is what the start names, each other follows the one
+-- before it, and nothing follows the last
 pub record IsRoute (rows : List Row) (builtins : List Builtin) (begin : Start) (first : Station)
     (rest : List Station) : Type 0 where
   pub begins : named_by rows begin ≡ First first
@@ -72,7 +75,7 @@ pub record IsRoute (rows : List Row) (builtins : List Builtin) (begin : Start) (
 
 -- ---- what a route gives
 
--- the provider that an end stands for
+-- who provides what a route ends at, by its last hop
 abbrev pub provider_of : Hop → Provider
 provider_of h = elim h.step as (λ _. Provider) [
   | CapabilityHop ↦ provider.Instance h.inc h.moniker
@@ -80,28 +83,30 @@ provider_of h = elim h.step as (λ _. Provider) [
   | _ ↦ provider.Framework
 ]
 
+-- whether a hop is a use
 abbrev pub is_use : StepKind → Bool
 is_use UseHop = true
 is_use _ = false
 
--- the first rights that a hop states
+-- the first rights that a hop of these stations states
 abbrev pub first_rights : List Station → Option RightSet
 first_rights stations = slice_get (filter_map (λ s. s.hop.rights) stations) 0
 
--- the rights that are asked: those of a use; from an expose or an offer on, the first that a hop states
+-- the rights that a route asks for: those of its use; where it begins at an expose or an offer, the
+-- first that a hop states
 abbrev pub asked_rights : List Station → Option RightSet
 asked_rights [] = None
 asked_rights (s ∷ ss) = if is_use s.hop.step then s.hop.rights else first_rights (s ∷ ss)
 
--- the end's path and the subdirectories, in the order from the source to the use; what the
--- framework provides has its path alone
+-- the path at which a route that ends at s gives: the end's path and the subdirectories of the
+-- stations before it, from the source to the use; what the framework provides has its path alone
 abbrev pub path_of : List Station → Station → List ℕ
 path_of prefix s = elim s.hop.step as (λ _. List ℕ) [
   | FrameworkHop ↦ s.path
   | _ ↦ joined_text s.path (filter_map (λ t. t.subdir) (reverse prefix))
 ]
 
--- the route that ends at a station, behind these
+-- the route whose last station is s, after the stations of the prefix
 abbrev pub route_of : List Station → Station → Route
 route_of prefix s = record {
   hops = map (λ t. t.hop) (prefix ++ s ∷ []);
@@ -110,41 +115,45 @@ route_of prefix s = record {
   provider = provider_of s.hop;
 }
 
--- ---- what is tried at a station, behind the prefix of those before it
+-- ---- what is tried at a station, after the prefix of those before it
 
+-- whether a hop is an offer or an expose
 abbrev pub is_offer_or_expose : StepKind → Bool
 is_offer_or_expose OfferHop = true
 is_offer_or_expose ExposeHop = true
 is_offer_or_expose _ = false
 
--- the availability that stands at the last of these stations: the last that one of them states by itself;
--- what takes it over from its target changes nothing
+-- the availability that holds after these stations: the last that one of them states itself; one that
+-- takes it over from its target changes nothing
 abbrev pub standing : List Station → Option Availability
 standing stations =
     slice_get (reverse (filter_map (λ t. option_and_then stated_itself t.hop.availability) stations)) 0
 
+-- the failure at a hop whose availability is weaker than what is asked; none where one of them isn't
+-- stated
 abbrev pub unless_fitting : Hop → Option Availability → Option Availability → Option Walked
 unless_fitting hop (Some asked) (Some given) =
     if fits asked given then None else Some (Failed hop (why.AvailabilityTooWeak asked given))
 unless_fitting hop _ _ = None
 
--- an offer or expose hop at which an availability stands that doesn't fit the one at the hop before
+-- the failure at an offer or expose hop whose availability doesn't fit what the stations before it ask
 abbrev pub weak_availability : List Station → Station → Option Walked
 weak_availability prefix s =
     if is_offer_or_expose s.hop.step
     then unless_fitting s.hop (standing prefix) (standing (prefix ++ s ∷ []))
     else None
 
+-- the failure at a hop that states fewer rights than are asked; none where one of them isn't stated
 abbrev pub unless_within : Hop → Option RightSet → Option RightSet → Option Walked
 unless_within hop (Some asked) (Some stated) =
     if contains stated asked then None else Some (Failed hop (why.RightsTooWeak asked stated))
 unless_within hop _ _ = None
 
--- a hop that states rights which the asked ones aren't within
+-- the failure at a hop whose rights don't contain the ones asked for
 abbrev pub weak_rights : List Station → Station → Option Walked
 weak_rights prefix s = unless_within s.hop (asked_rights (prefix ++ s ∷ [])) s.hop.rights
 
--- what the next of a station says by itself
+-- what a walk comes to at a station by what follows it; nothing yet where another station does
 abbrev pub said_by : List Station → Station → NextStation → Option Walked
 said_by prefix s (To t) = None
 said_by prefix s Ends = Some (Given (route_of prefix s))
@@ -153,36 +162,38 @@ said_by prefix s FromVoid = Some (Void s.hop)
 said_by prefix s NoChild = Some (Failed s.hop why.NoInstance)
 said_by prefix s (Misses hop reason) = Some (Failed hop reason)
 
--- a missing instance first, then availability, then rights, then what its next says
+-- what a walk comes to at a station: a missing instance is told first, then availability, then rights,
+-- then what follows
 abbrev pub trial_by : List Station → Station → NextStation → Option Walked
 trial_by prefix s NoChild = Some (Failed s.hop why.NoInstance)
 trial_by prefix s next =
     or_else (weak_availability prefix s) (or_else (weak_rights prefix s) (said_by prefix s next))
 
--- what is decided at a station, if anything is
+-- what a walk comes to at station s, after the stations of the prefix; nothing where it goes on
 abbrev pub trial : List Row → List Builtin → List Station → Station → Option Walked
 trial rows builtins prefix s = trial_by prefix s (next_of rows builtins s)
 
 -- ---- the verdict
 
--- of these stations behind the prefix the last is the first at which something is decided
+-- the walk over these stations comes to v at the last of them, and to nothing at any before it
 abbrev pub IsDecided : List Row → List Builtin → List Station → Station → List Station → Walked → Type 0
 IsDecided rows builtins prefix s [] v = trial rows builtins prefix s ≡ Some v
 IsDecided rows builtins prefix s (t ∷ ts) v =
     (trial rows builtins prefix s ≡ None) × IsDecided rows builtins (prefix ++ s ∷ []) t ts v
 
--- the verdict on the stations from one on, up to the first that decides
+-- the walk from a first station comes to v: at the first station at which something is decided
 pub record IsRouteVerdict (rows : List Row) (builtins : List Builtin) (first : Station)
     (v : Walked) : Type 0 where
   pub rest : List Station
   pub chain : IsChain rows builtins first rest
   pub decided : IsDecided rows builtins [] first rest v
 
+-- the walk comes to v, by what its start names
 abbrev pub IsWalkedFrom : List Row → List Builtin → Named → Walked → Type 0
 IsWalkedFrom rows builtins (First s) v = IsRouteVerdict rows builtins s v
 IsWalkedFrom rows builtins NoUse v = v ≡ NoSuchUse
 IsWalkedFrom rows builtins (NoneExposed hop) v = v ≡ Failed hop why.NoExpose
 
--- what a walk from a start comes to
+-- the walk from a start comes to v: a route that is given, or why none is
 abbrev pub IsWalked : List Row → List Builtin → Start → Walked → Type 0
 IsWalked rows builtins begin v = IsWalkedFrom rows builtins (named_by rows begin) v

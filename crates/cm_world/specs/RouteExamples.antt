@@ -35,19 +35,23 @@ use Rattle.cm_world.specs.Examples.{c, l, s_path, s, entry, at_root, at_child, r
 
 -- ---- a directory: the store l has /d, the root offers it to c, the client c uses it at /i
 
+-- the name `d`, of the directory
 abbrev pub d : List ℕ
 d = 100 ∷ []
 
+-- the path /d, at which the store has it
 abbrev pub d_path : List ℕ
 d_path = 47 ∷ d
 
+-- the path /i, at which the client uses it
 abbrev pub i_path : List ℕ
 i_path = 47 ∷ 105 ∷ []
 
--- `rw*`
+-- the rights `rw*`
 abbrev pub reading_writing : RightSet
 reading_writing = union reading writing
 
+-- an offer or expose of the directory, with these rights and this subdirectory
 abbrev pub giving : Origin → Option RightSet → Option (List ℕ) → Give
 giving from rights subdir = record {
   kind = Directory;
@@ -60,18 +64,21 @@ giving from rights subdir = record {
   availability = Required;
 }
 
+-- the root, which offers the directory of the store to the client
 abbrev pub offering_decl : Option RightSet → Option (List ℕ) → Decl
 offering_decl rights subdir = record no_decl {
   children = child l ∷ child c ∷ [];
   offers = record { to = c; give = giving (from_child l) rights subdir } ∷ [];
 }
 
+-- the store, which provides the directory with `rw*` and exposes it
 abbrev pub storing_decl : Option RightSet → Option (List ℕ) → Decl
 storing_decl rights subdir = record no_decl {
   capabilities = record { kind = Directory; name = d; path = d_path; rights = Some reading_writing } ∷ [];
   exposes = giving origin.Own rights subdir ∷ [];
 }
 
+-- the client, which uses the directory with these rights
 abbrev pub using_decl : RightSet → Option (List ℕ) → Decl
 using_decl rights subdir = record no_decl {
   uses = record {
@@ -86,6 +93,7 @@ using_decl rights subdir = record no_decl {
   } ∷ [];
 }
 
+-- a row that is resolved to this declaration, and off
 abbrev pub resolved_row : ℕ → Option ℕ → Option ChildName → Decl → Row
 resolved_row inc parent name declaration = record (root_row []) {
   inc = inc;
@@ -95,6 +103,7 @@ resolved_row inc parent name declaration = record (root_row []) {
   decl = Some declaration;
 }
 
+-- the root, the store and the client, resolved to these declarations
 abbrev pub three_rows : Decl → Decl → Decl → List Row
 three_rows root store client =
     resolved_row 0 None None root
@@ -102,6 +111,7 @@ three_rows root store client =
     ∷ resolved_row 2 (Some 0) (Some (static_name c)) client
     ∷ []
 
+-- a hop of the directory's route
 abbrev pub directory_hop : StepKind → ℕ → Moniker → Option RightSet → Option Availability → Hop
 directory_hop step inc moniker rights availability = record {
   step = step;
@@ -122,7 +132,7 @@ subdir_rows =
     (storing_decl None (Some (97 ∷ [])))
     (using_decl reading (Some d))
 
--- to /d/a/b/c/d
+-- the route through them, which leads to /d/a/b/c/d
 abbrev pub subdir_route : Route
 subdir_route = record {
   hops =
@@ -141,6 +151,7 @@ abbrev pub weak_rows : List Row
 weak_rows =
     three_rows (offering_decl None None) (storing_decl (Some reading) None) (using_decl reading_writing None)
 
+-- the walk fails at the expose, which has fewer rights than the use asks for
 abbrev pub weak_walk : Walked
 weak_walk =
     walked.Failed
@@ -149,26 +160,30 @@ weak_walk =
 
 -- ---- a client 1 that uses s, which the root offers it from void
 
+-- a root that offers s to its child from the void, optionally
 abbrev pub void_decl : Decl
 void_decl = record no_decl {
   children = child c ∷ [];
   offers = record { to = c; give = give s origin.Void Strong Optional } ∷ [];
 }
 
+-- a client that uses s so
 abbrev pub asking_decl : Availability → Decl
 asking_decl used =
     record no_decl { uses = record (use_of s origin.Parent s_path) { availability = used } ∷ [] }
 
+-- a root that offers s from the void, and a client that uses it so
 abbrev pub void_rows : Availability → List Row
 void_rows used =
     resolved_row 0 None None void_decl
     ∷ resolved_row 1 (Some 0) (Some (static_name c)) (asking_decl used)
     ∷ []
 
+-- the hop at which the void is told
 abbrev pub void_hop : Hop
 void_hop = record offer_hop { availability = Some Optional }
 
--- the same with an offer that states this
+-- the root and the client of `void_rows`, where the offer has an availability of its own
 abbrev pub voided_rows : Availability → Availability → List Row
 voided_rows used given =
     resolved_row 0 None None
@@ -201,12 +216,15 @@ passed_walk =
 
 -- ---- room for one row: the root's one child doesn't fit
 
+-- a tree with room for one row and three entries
 abbrev pub small_frame : Frame
 small_frame = record { root = 114 ∷ []; builtins = []; limits = record { rows = 1; entries = 3 } }
 
+-- a root with one child
 abbrev pub one_child : Decl
 one_child = record no_decl { children = child c ∷ [] }
 
+-- the root is found and resolved, but its child doesn't fit
 abbrev pub full_entries : List Entry
 full_entries =
     entry (Find at_root) (reply.Found 0)

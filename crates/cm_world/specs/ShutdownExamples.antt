@@ -21,18 +21,22 @@ use Rattle.cm_world.specs.RouteExamples.{resolved_row}
 
 -- ---- a root with the collection k, and its dynamic child x
 
+-- the name `k`, of a collection
 abbrev pub k : List ℕ
 k = 107 ∷ []
 
+-- a root with the collection k
 abbrev pub k_decl : Decl
 k_decl = record no_decl {
   collections =
       record { name = k; durability = Transient; dynamic_offers = false; environment = None } ∷ [];
 }
 
+-- the name of its child x
 abbrev pub x_name : ChildName
 x_name = record { coll = Some k; name = x }
 
+-- the moniker of the child x in k
 abbrev pub at_x : Moniker
 at_x = record { parts = x_name ∷ [] }
 
@@ -67,28 +71,34 @@ purged_entries =
 -- ---- children provider 1, client 2, mid 3 of a closing root, and leaf 4 of mid: the client depends
 -- on mid, mid on the provider and on its leaf; the provider is weakly offered something of the client
 
+-- the name `v`, of the provider
 abbrev pub v : List ℕ
 v = 118 ∷ []
 
+-- the name `m`, of the instance in the middle
 abbrev pub m : List ℕ
 m = 109 ∷ []
 
+-- the root of provider, client and mid, with the offers between them
 abbrev pub chain_decl : Decl
 chain_decl = record no_decl {
   children = child v ∷ child c ∷ child m ∷ [];
   offers = offer s m c Strong ∷ offer x v m Strong ∷ offer k c v Weak ∷ [];
 }
 
+-- the middle instance, which uses s of its leaf
 abbrev pub mid_decl : Decl
 mid_decl = record no_decl { children = child l ∷ []; uses = use_of s (from_child l) s_path ∷ [] }
 
+-- a row that is resolved and on
 abbrev pub running : ℕ → Option ℕ → Option ChildName → Decl → Row
 running inc parent name declaration = record (resolved_row inc parent name declaration) { on = true }
 
+-- the row as it is, or shut and off
 abbrev pub shut_if : Bool → Row → Row
 shut_if shut r = record r { on = not shut; shut = shut }
 
--- client, mid and leaf may be shut
+-- the five rows; for the client, the middle one and the leaf it is said whether they are shut
 abbrev pub chain_rows : Bool → Bool → Bool → List Row
 chain_rows client mid leaf =
     record (running 0 None None chain_decl) { closing = true }

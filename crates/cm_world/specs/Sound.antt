@@ -14,25 +14,25 @@ use Rattle.cm_world.specs.Level.{LevelStrong}
 
 -- ---- orderly
 
--- incarnations rise along the list and are below the next one
+-- incarnations increase along the list, and all are below the next one
 abbrev pub IncarnationsIncrease : ℕ → List Row → Type 0
 IncarnationsIncrease next [] = Unit {0}
 IncarnationsIncrease next (r ∷ rs) = ((r.inc < next) × ((s : ℕ) → IsSome (row_of rs s) → r.inc < s))
     × IncarnationsIncrease next rs
 
--- the row of an incarnation, as a fact
+-- row r is the one of incarnation i
 abbrev pub Lives : List Row → ℕ → Row → Type 0
 Lives rows i r = row_of rows i ≡ Some r
 
--- a parent that lives, has a declaration and a lower incarnation
+-- p may be the parent of i: it lives, is resolved and has a lower incarnation
 pub record IsParent (rows : List Row) (p i : ℕ) : Type 0 where
   pub row : Row
   pub lives : Lives rows p row
   pub resolved : IsSome row.decl
   pub lower : p < i
 
--- incarnations rise, there is one root, parents live and come first, names are apart, and declarations
--- are valid
+-- an orderly tree: incarnations increase, there is one root, parents live and come first, names are
+-- apart, and declarations are valid
 pub record IsOrderly (rows : List Row) (next : ℕ) : Type 0 where
   pub increasing : IncarnationsIncrease next rows
   -- a row without a parent is the root
@@ -46,18 +46,19 @@ pub record IsOrderly (rows : List Row) (next : ℕ) : Type 0 where
 
 -- ---- sound
 
--- a shut row is off, has no pending action and is at or below a closing row
+-- a row that is shut is off, has no pending action, and was shut down in order: it or one above it is
+-- marked so
 pub record IsWellShut (rows : List Row) (r : Row) : Type 0 where
   pub off : r.on ≡ false
   pub idle : r.pending ≡ None
   pub closing : IsTrue (is_closing rows r.inc)
 
--- a child of p by a name without a collection
+-- whether a row is a child of p that p's declaration names itself, not one in a collection
 abbrev pub is_static_child : ℕ → Row → Bool
 is_static_child p r = has_parent p r && option_map_or (λ c. is_none c.coll) r.name false
 
--- the children of p by such names are exactly those of its declaration, one each; none is
--- doomed or was given anything
+-- the declared children of p stand as p's declaration has them, one row each; none is doomed or was
+-- given offers
 pub record HasStatic (rows : List Row) (p : ℕ) (d : Decl) : Type 0 where
   pub one_each : (name : List ℕ) →
       count_by (λ r. has_parent p r && has_name (static_name name) r) rows

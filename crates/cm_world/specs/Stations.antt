@@ -18,8 +18,8 @@ use Rattle.cm_world.specs.declared.route.StepKind.TheVariants.{UseHop, OfferHop,
 use Rattle.cm_world.specs.declared.route.StepKind.TheVariants.{FrameworkHop, BuiltinHop}
 use Rattle.cm_world.specs.Rows.{moniker_of}
 
--- a hop, with the source, the name there and the subdirectory that its row states; an end has
--- no source, and the path that it provides
+-- a step of a route: a hop, with the source, the name there and the subdirectory that its row of the
+-- declaration states. An end has no source, and the path that it provides
 pub record Station : Type 0 where
   pub hop : Hop
   pub source : Option Origin
@@ -27,6 +27,7 @@ pub record Station : Type 0 where
   pub subdir : Option (List ℕ)
   pub path : List ℕ
 
+-- the hop at row i, with what its row of the declaration states
 abbrev pub hop_at : List Row → StepKind → ℕ → Kind → List ℕ → Option RightSet → Option Availability → Bool
     → Hop
 hop_at rows step i kind name rights availability strong = record {
@@ -40,12 +41,14 @@ hop_at rows step i kind name rights availability strong = record {
   strong = strong;
 }
 
--- a hop that no row of a declaration states: it states no rights and no availability, and counts as strong
+-- a hop that no row of a declaration states: it has no rights and no availability, and counts as
+-- strong
 abbrev pub bare_hop : List Row → StepKind → ℕ → Kind → List ℕ → Hop
 bare_hop rows step i kind name = hop_at rows step i kind name None None true
 
 -- ---- stations that lead on to a source
 
+-- the station of a use that row i declares
 abbrev pub use_station : List Row → ℕ → Usage → Station
 use_station rows i u = record {
   hop = hop_at rows UseHop i u.kind u.name u.rights (Some u.availability) (is_strong u.dependency);
@@ -55,7 +58,8 @@ use_station rows i u = record {
   path = [];
 }
 
--- the hop of what is given has its name at the target
+-- the station of an offer or expose at row i; its hop has the name that the capability has at the
+-- target
 abbrev pub give_station : List Row → StepKind → ℕ → Give → Bool → Station
 give_station rows step i g strong = record {
   hop = hop_at rows step i g.kind g.target_name g.rights (Some g.availability) strong;
@@ -65,25 +69,29 @@ give_station rows step i g strong = record {
   path = [];
 }
 
+-- the station of an offer at row i
 abbrev pub offer_station : List Row → ℕ → Give → Station
 offer_station rows i g = give_station rows OfferHop i g (is_strong g.dependency)
 
--- an expose counts as strong
+-- the station of an expose at row i, which counts as strong
 abbrev pub expose_station : List Row → ℕ → Give → Station
 expose_station rows i g = give_station rows ExposeHop i g true
 
 -- ---- ends
 
+-- a station at which a route ends, with the path that is provided there
 abbrev pub end_station : Hop → List ℕ → Station
 end_station hop path = record { hop = hop; source = None; source_name = []; subdir = None; path = path }
 
+-- the end of a route at a capability that row i provides
 abbrev pub capability_station : List Row → ℕ → Capability → Station
 capability_station rows i c =
     end_station (hop_at rows CapabilityHop i c.kind c.name c.rights None true) c.path
 
+-- the end of a route at a builtin of the root
 abbrev pub builtin_station : List Row → ℕ → Builtin → Station
 builtin_station rows i b = end_station (hop_at rows BuiltinHop i b.kind b.name b.rights None true) b.path
 
--- what the framework provides has the path /svc/ and its name
+-- the end of a route at what the framework provides to row i; its path is /svc/ and the name
 abbrev pub framework_station : List Row → ℕ → Kind → List ℕ → Station
 framework_station rows i kind name = end_station (bare_hop rows FrameworkHop i kind name) (service_path name)

@@ -1,5 +1,5 @@
 -- Promised.
--- The events that are enabled, and the replies that they may get.
+-- Which events a caller may make, and the replies that they may get.
 use Rattle.std.specs.Prelude.{◌≡◌, ℕ, List, [], Bool, false, true, not, ◌&&◌, ◌||◌, ◌==◌, Some, None}
 use Rattle.std.specs.Prelude.{option_map, is_some, IsTrue, ◌⊎◌}
 use Rattle.std.specs.List.{list_any}
@@ -31,8 +31,8 @@ use Rattle.cm_world.specs.Expiring.{reap_reply}
 
 -- ---- enabled
 
--- an action that this caller began and that has no outcome, and an end that fits it, with a
--- valid declaration if it brings one
+-- the caller may end the action so: it began it, the action has no outcome yet, and the end fits its
+-- kind; a declaration that it brings is valid
 pub record MayEnd (acts : List Act) (caller action : ℕ) (finish : Finish) : Type 0 where
   pub act : Act
   pub there : act_of acts action ≡ Some act
@@ -41,23 +41,25 @@ pub record MayEnd (acts : List Act) (caller action : ℕ) (finish : Finish) : Ty
   pub fitting : IsTrue (fits_kind act.kind finish)
   pub valid : HasValid finish
 
+-- whether a join is that of this caller with this action
 abbrev pub is_join : ℕ → ℕ → Join → Bool
 is_join caller action j = (j.caller == caller) && (j.action == action)
 
--- this caller joined the action and hasn't awaited it since, and it has an outcome
+-- the caller may await the action: it joined it and hasn't awaited it since, and the action has an
+-- outcome
 pub record MayAwait (acts : List Act) (joins : List Join) (caller action : ℕ) : Type 0 where
   pub joined : IsTrue (list_any (is_join caller action) joins)
   pub ended : IsTrue (is_some (outcome_of acts action))
 
--- a target that doesn't live, or is being shut down
+-- whether a shutdown of t may go on: t doesn't live any more, or is being shut down
 abbrev pub may_close : List Row → ℕ → Bool
 may_close rows t = not (is_live rows t) || is_closing rows t
 
--- a row that doesn't live, or is doomed and shut with all below it
+-- whether a row may be removed: it doesn't live any more, or it is doomed, and shut with all below it
 abbrev pub may_purge : List Row → ℕ → Bool
 may_purge rows i = not (is_live rows i) || (has_doomed rows i && is_subtree_shut rows i)
 
--- the events that a caller may make now; one that has to wait for a pending action is none
+-- the caller may make this event now; one that has to wait for a pending action isn't enabled
 abbrev pub IsEnabled : World → ℕ → Event → Type 0
 IsEnabled w caller (Begin kind i) = IsTrue (is_some (begin_reply w.rows w.next_action kind i))
 IsEnabled w caller (End a finish) = MayEnd w.acts caller a finish
@@ -70,7 +72,7 @@ IsEnabled w caller _ = Unit {0}
 
 -- ---- the replies to a pick
 
--- where not all is shut, a row that may be picked and is on is to be stopped
+-- a pick names the stop of a row: not all of the target is shut, and the row may be picked and is on
 pub record PicksOn (rows : List Row) (next_action target : ℕ) (work : Work) : Type 0 where
   pub undone : is_subtree_shut rows target ≡ false
   pub row : Row
@@ -78,14 +80,15 @@ pub record PicksOn (rows : List Row) (next_action target : ℕ) (work : Work) : 
   pub on : row.on ≡ true
   pub same : work ≡ work_of rows next_action Stop row
 
--- and one that is off is shut
+-- a pick shuts a row at once: not all of the target is shut, and the row may be picked and is off
 pub record PicksOff (rows : List Row) (target inc : ℕ) : Type 0 where
   pub undone : is_subtree_shut rows target ≡ false
   pub row : Row
   pub may : MayPick rows target inc row
   pub off : row.on ≡ false
 
--- the reply to a pick: done, the stop of an instance that may stop, or that one which is off is shut
+-- the replies to a pick, a step of a shutdown: all is shut; an instance is to be stopped; or one that
+-- is off was shut
 abbrev pub IsPickReply : List Row → ℕ → ℕ → Reply → Type 0
 IsPickReply rows next_action t reply.Done = IsTrue (is_subtree_shut rows t)
 IsPickReply rows next_action t (reply.Stopping work) = PicksOn rows next_action t work
@@ -94,7 +97,8 @@ IsPickReply rows next_action t _ = ⊥
 
 -- ---- allowed
 
--- the replies that a caller's event may get: one, but for a pick, which may choose among rows
+-- the replies that a caller's event may get in a world. There is one, but for a pick, which may choose
+-- among rows
 abbrev pub Allowed : World → ℕ → Event → Reply → Type 0
 Allowed w caller (Find m) r = r ≡ found_from w.rows 0 [] m.parts
 Allowed w caller (Begin kind i) r = begin_reply w.rows w.next_action kind i ≡ Some r

@@ -1,5 +1,5 @@
 -- Promised.
--- What the beginner of an action has to do.
+-- What the beginner of an action has to ask of the outside.
 use Rattle.std.specs.Prelude.{ℕ, List, [], Option, Some, None, filter, filter_map, option_and_then, unwrap_or}
 use Rattle.cm_decl.specs.Graph.{static_name}
 use Rattle.cm_world.specs.declared.row.Row.{Row}
@@ -8,12 +8,12 @@ use Rattle.cm_world.specs.declared.action.ActKind.TheVariants.{Resolve, Start, S
 use Rattle.cm_world.specs.declared.action.Work.{Work}
 use Rattle.cm_world.specs.Rows.{row_of, child_of, moniker_of}
 
--- the absolute URL of a row's parent, empty for the root
+-- the absolute URL of a row's parent, by which its own is resolved; empty for the root
 abbrev pub base_of : List Row → Row → List ℕ
 base_of rows r =
     unwrap_or (option_and_then (λ p. option_and_then (λ q. q.absolute) (row_of rows p)) r.parent) []
 
--- the children that start together with a row, in the order of its declaration
+-- the incarnations of the children that start together with a row, in the order of its declaration
 abbrev pub eager_of : List Row → Row → List ℕ
 eager_of rows r =
     elim r.decl as (λ _. List ℕ) [
@@ -21,10 +21,11 @@ eager_of rows r =
       | Some d ↦ filter_map (λ k. child_of rows r.inc (static_name k.name)) (filter (λ k. k.eager) d.children)
     ]
 
+-- the runner that a row's declaration names, if it is resolved and names one
 abbrev pub runner_of : Row → Option (List ℕ)
 runner_of r = option_and_then (λ d. d.runner) r.decl
 
--- the work on the program of a row: a start's or a stop's
+-- the work of a start or a stop, which is done on the row's program
 abbrev pub program_work : List Row → ℕ → Row → List ℕ → Work
 program_work rows action r eager = record {
   action = action;
@@ -36,7 +37,7 @@ program_work rows action r eager = record {
   eager = eager;
 }
 
--- the work of an action at a row
+-- the work that the beginner of an action at a row has to do
 abbrev pub work_of : List Row → ℕ → ActKind → Row → Work
 work_of rows action Resolve r = record {
   action = action;

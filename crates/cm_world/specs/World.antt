@@ -10,8 +10,8 @@ use Rattle.cm_world.specs.declared.action.Join.{Join}
 use Rattle.cm_world.specs.declared.action.Outcome.{Outcome}
 use Rattle.cm_world.specs.declared.frame.Frame.{Frame}
 
--- the instances that live, all actions that were begun, the callers that wait for one, and how
--- many entries the history has; the frame never changes
+-- the realm tree, with what is under way: the instances that live, all actions that were ever begun,
+-- the callers that wait for one, and how many entries the history has. The frame never changes
 pub record World : Type 0 where
   pub frame : Frame
   pub rows : List Row
@@ -21,7 +21,7 @@ pub record World : Type 0 where
   pub joins : List Join
   pub entries : ℕ
 
--- a row that isn't resolved and is off
+-- a new row: not resolved, off, and with nothing pending
 abbrev pub new_row : ℕ → Option ℕ → Option ChildName → List ℕ → List Give → Row
 new_row i parent name url gives = record {
   inc = i;
@@ -38,10 +38,11 @@ new_row i parent name url gives = record {
   gives = gives;
 }
 
+-- the row of the root, as the tree begins
 abbrev pub root_row : List ℕ → Row
 root_row url = new_row 0 None None url []
 
--- one row, the root, which isn't resolved
+-- the world before any entry: one row, the root, which isn't resolved
 abbrev pub start : Frame → World
 start f = record {
   frame = f;
@@ -57,6 +58,7 @@ start f = record {
 abbrev pub rows_fit : ℕ → List Row → ℕ → ℕ → Bool
 rows_fit limit rows next_inc n = nat_le (length rows + n) limit && nat_le (next_inc + n) (2 ^ 64 - 1)
 
+-- the action of this number, if it was ever begun
 abbrev pub act_of : List Act → ℕ → Option Act
 act_of acts a = find (λ x. x.action == a) acts
 
@@ -64,6 +66,7 @@ act_of acts a = find (λ x. x.action == a) acts
 abbrev pub outcome_of : List Act → ℕ → Option Outcome
 outcome_of acts a = option_and_then (λ x. x.outcome) (act_of acts a)
 
+-- whether an action hasn't ended yet
 abbrev pub is_open : Act → Bool
 is_open x = is_none x.outcome
 

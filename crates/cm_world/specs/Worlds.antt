@@ -15,14 +15,15 @@ use Rattle.cm_world.specs.ActionExamples.{joined_entries, failed_entries}
 use Rattle.cm_world.specs.ShutdownExamples.{doomed_entries}
 use Rattle.cm_world.specs.ExpiringExamples.{stopping_entries}
 
+-- the tree of the examples before any entry
 abbrev pub fresh : World
 fresh = start frame
 
--- a tree with room for one row
+-- a tree whose room is for one row
 abbrev pub small : World
 small = start small_frame
 
--- the root is resolved
+-- the tree of the examples once its root is resolved
 abbrev pub rooted : World
 rooted = replay fresh (take 3 resolving_entries)
 

@@ -56,6 +56,7 @@ pub enum Refusal {
 }
 
 impl Drop for Refusal {
+    /// Called where the value goes: gives back the memory of its parts.
     fn drop(self) {
         match self {
             Refusal::OfferCycle(_) => {}
@@ -94,6 +95,7 @@ pub struct Checked {
 }
 
 impl Drop for Checked {
+    /// Called where the value goes: gives back the memory of its parts.
     fn drop(self) {
         let Checked {
             moniker: _,
@@ -137,6 +139,7 @@ pub enum Answer {
 }
 
 impl Drop for Answer {
+    /// Called where the value goes: gives back the memory of its parts.
     fn drop(self) {
         match self {
             Answer::Children(_) => {}

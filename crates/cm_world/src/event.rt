@@ -13,6 +13,7 @@ pub enum Target {
 }
 
 impl Drop for Target {
+    /// Called where the value goes: gives back the memory of its parts.
     fn drop(self) {
         match self {
             Target::Named(_) => {}
@@ -65,6 +66,7 @@ pub enum Event {
 }
 
 impl Drop for Event {
+    /// Called where the value goes: gives back the memory of its parts.
     fn drop(self) {
         match self {
             Event::Find(_) => {}

@@ -21,6 +21,7 @@ pub struct Builtin {
 }
 
 impl Drop for Builtin {
+    /// Called where the value goes: gives back the memory of its parts.
     fn drop(self) {
         let Builtin {
             kind: _,

@@ -31,6 +31,7 @@ pub struct Happening {
 }
 
 impl Drop for Happening {
+    /// Called where the value goes: gives back the memory of its parts.
     fn drop(self) {
         let Happening {
             number: _,

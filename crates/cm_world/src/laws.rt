@@ -58,7 +58,7 @@ pub fn starts_sound()
 {}
 
 /// A legal history goes on by any entry that the world allows which it leaves, and then leaves
-/// the world behind that entry.
+/// the world after that entry.
 pub fn goes_on()
     ensures legal { laws_inside.LegalGoesOn }
     ensures replay { laws_inside.ReplayGoesOn }
@@ -74,8 +74,8 @@ pub fn finds_routes()
     ensures no_expose { Legal worlds.fresh unexposed_entries }
 {}
 
-/// Subdirectories stand behind the provider's path in the order from the provider to the client.
-/// A hop without rights doesn't reset what is asked: the expose behind it is too weak. An
+/// Subdirectories stand after the provider's path in the order from the provider to the client.
+/// A hop without rights doesn't reset what is asked: the expose after it is too weak. An
 /// optional use of what is offered from void comes to void, and a required one asks for more than
 /// the offer states.
 pub fn judges_routes()
@@ -86,7 +86,7 @@ pub fn judges_routes()
 {}
 
 /// A transitional use takes an optional offer from void, and an optional use asks for more than a
-/// transitional offer. What an offer takes over from its target stands at it: behind it a required
+/// transitional offer. What an offer takes over from its target stands at it: after it a required
 /// use finds an optional expose too weak, and an optional one doesn't.
 pub fn judges_availability()
     ensures less { IsWalked (voided_rows Transitional Optional) [] (begin.UseAt 1 s_path) worlds.left_out }

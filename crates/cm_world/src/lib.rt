@@ -15,7 +15,7 @@
 //! | `Work`, `Begin`, `End` | the replies to actions, and what they change |
 //! | `Find`, `Create`, `Marks`, `Openings`, `Reports` | the other replies, kind by kind |
 //! | `Expiring` | which instances go with one that stops, and what is left to be removed of it |
-//! | `Step`, `After` | the events that are enabled, the replies allowed, the tree behind them |
+//! | `Step`, `After` | the events that are enabled, the replies allowed, the tree after them |
 //! | `Legal`, `Sound` | histories, and orderly and sound trees |
 //! | `Laws`, `Ending` | laws of the definitions, and why every walk ends |
 //! | `Examples`, `Worlds` and others | short realms that worked examples speak of |

@@ -103,6 +103,7 @@ pub struct Entry {
 }
 
 impl Drop for Entry {
+    /// Called where the value goes: gives back the memory of its parts.
     fn drop(self) {
         let Entry {
             caller: _,

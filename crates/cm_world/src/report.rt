@@ -13,6 +13,7 @@ pub struct Kid {
 }
 
 impl Drop for Kid {
+    /// Called where the value goes: gives back the memory of its parts.
     fn drop(self) {
         let Kid { name: _, inc: _ } = self;
     }
@@ -44,6 +45,7 @@ pub struct Look {
 }
 
 impl Drop for Look {
+    /// Called where the value goes: gives back the memory of its parts.
     fn drop(self) {
         let Look {
             inc: _,
@@ -81,6 +83,7 @@ pub struct SurveyRow {
 }
 
 impl Drop for SurveyRow {
+    /// Called where the value goes: gives back the memory of its parts.
     fn drop(self) {
         let SurveyRow {
             inc: _,
@@ -109,6 +112,7 @@ pub struct Lost {
 }
 
 impl Drop for Lost {
+    /// Called where the value goes: gives back the memory of its parts.
     fn drop(self) {
         let Lost { inc: _, moniker: _ } = self;
     }

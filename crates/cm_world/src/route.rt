@@ -51,6 +51,7 @@ pub struct Hop {
 }
 
 impl Drop for Hop {
+    /// Called where the value goes: gives back the memory of its parts.
     fn drop(self) {
         let Hop {
             step: _,
@@ -83,6 +84,7 @@ pub enum Provider {
 }
 
 impl Drop for Provider {
+    /// Called where the value goes: gives back the memory of its parts.
     fn drop(self) {
         match self {
             Provider::Instance(_, _) => {}
@@ -103,7 +105,7 @@ pub struct Route {
     /// Its hops, from the use, the expose or the offer that it begins with to the provider's.
     pub hops: List<Hop>,
     /// Where the capability stands at its provider: the provider's path with the subdirectories
-    /// of the hops behind it, in the order from the provider to the client.
+    /// of the hops after it, in the order from the provider to the client.
     pub path: Text,
     /// The rights that a directory is opened with; `None` for a protocol.
     pub rights: Option<Rights>,
@@ -112,6 +114,7 @@ pub struct Route {
 }
 
 impl Drop for Route {
+    /// Called where the value goes: gives back the memory of its parts.
     fn drop(self) {
         let Route {
             hops: _,
@@ -162,6 +165,7 @@ pub enum Start {
 }
 
 impl Drop for Start {
+    /// Called where the value goes: gives back the memory of its parts.
     fn drop(self) {
         match self {
             Start::UseAt(_, _) => {}

@@ -37,6 +37,7 @@ pub struct Row {
 }
 
 impl Drop for Row {
+    /// Called where the value goes: gives back the memory of its parts.
     fn drop(self) {
         let Row {
             inc: _,

@@ -23,7 +23,7 @@ impl<L: Ledger> Model for StepCount<L> {
 }
 
 impl<L: Ledger> StepCount<L> {
-    /// No steps yet.
+    /// A count of no steps.
     pub fn new(blank: Blank) -> StepCount<L>
         requires name { blank.name ≡ L.name }
         requires parts { blank.parts ≡ L.parts }
@@ -34,7 +34,7 @@ impl<L: Ledger> StepCount<L> {
         StepCount { book, share }
     }
 
-    /// Takes one step.
+    /// Counts one step: one look at a row, by which what a search costs is bounded.
     pub fn tick(&mut self)
         ensures { self.new ≡ self.old + 1 }
     {

@@ -1,6 +1,6 @@
 -- Promised.
--- The one text of a declaration.
--- ---- values
+-- The text that is written of a declaration: one JSON text for each. Members of an object are keys,
+-- each with its value.
 use Rattle.std.specs.Prelude.{ℕ, List, [], ◌∷◌, ◌++◌, map, codes, Bool, true, false, Option}
 use Rattle.std.specs.Prelude.{Some, None}
 use Rattle.serde_json.specs.Data.{Data, string, array, object, Members, no_members, put}
@@ -28,11 +28,11 @@ use Rattle.cm_decl.specs.declared.decl.Decl.{Decl}
 use Rattle.cm_decl.specs.declared.rows.Durability.{Durability}
 use Rattle.cm_decl.specs.declared.rows.Durability.TheVariants.{Transient, SingleRun}
 
--- keys and what stands at them
+-- keys, each with the value that stands at it
 abbrev pub Pairs : Type 0
 Pairs = List (List ℕ × Data)
 
--- the members with these pairs put among them; members stand in the byte order of their keys
+-- the members with these put among them; members stand in the byte order of their keys
 abbrev pub with_pairs : Members → Pairs → Members
 with_pairs ms [] = ms
 with_pairs ms (p ∷ ps) = with_pairs (put p.0 p.1 ms) ps
@@ -41,7 +41,7 @@ with_pairs ms (p ∷ ps) = with_pairs (put p.0 p.1 ms) ps
 abbrev pub object_of : Pairs → Data
 object_of ps = object (with_pairs no_members ps)
 
--- the list of what each is written as
+-- the JSON list of these, each written so
 abbrev pub list_of : {A : Type 0} → (A → Data) → List A → Data
 list_of write xs = array (items_of (map write xs))
 
@@ -62,11 +62,11 @@ abbrev pub durability_word : Durability → List ℕ
 durability_word Transient = codes "transient"
 durability_word SingleRun = codes "single_run"
 
--- a reference
+-- a reference to a name: `#` and the name
 abbrev pub reference : List ℕ → List ℕ
 reference name = 35 ∷ name
 
--- the word of an origin, or a reference
+-- a source, as `from` has it
 abbrev pub origin_text : Origin → List ℕ
 origin_text origin.Parent = codes "parent"
 origin_text origin.Own = codes "self"
@@ -76,17 +76,17 @@ origin_text origin.Void = codes "void"
 
 -- ---- fields
 
--- `rights` where there are any, as the names of the single rights
+-- the member `rights`, where there are any, as the words for single rights
 abbrev pub rights_pair : Option RightSet → Pairs
 rights_pair None = []
 rights_pair (Some rights) = (codes "rights", list_of string (words_of rights)) ∷ []
 
--- `subdir` where there is one
+-- the member `subdir`, where there is one
 abbrev pub subdir_pair : Option (List ℕ) → Pairs
 subdir_pair None = []
 subdir_pair (Some subdir) = (codes "subdir", string subdir) ∷ []
 
--- `environment` where there is one
+-- the member `environment`, where there is one
 abbrev pub environment_pair : Option (List ℕ) → Pairs
 environment_pair None = []
 environment_pair (Some name) = (codes "environment", string (reference name)) ∷ []
@@ -184,7 +184,7 @@ abbrev pub registration_pairs : List ℕ → Registration → Pairs
 registration_pairs key r =
     (key, string r.name) ∷ (codes "from", string (origin_text r.from)) ∷ (codes "as", string r.target) ∷ []
 
--- a registration
+-- a registration as a JSON object; its name stands at this key
 abbrev pub registration_data : List ℕ → Registration → Data
 registration_data key r = object_of (registration_pairs key r)
 
@@ -193,7 +193,7 @@ abbrev pub extends_word : Bool → List ℕ
 extends_word true = codes "realm"
 extends_word false = codes "none"
 
--- the members of a row of `environments`: all four
+-- the members of an item of `environments`; all four are written
 abbrev pub environment_pairs : Environment → Pairs
 environment_pairs e =
     (codes "name", string e.name)
@@ -202,80 +202,80 @@ environment_pairs e =
     ∷ (codes "debug", list_of (registration_data (codes "protocol")) e.debug)
     ∷ []
 
--- a storage
+-- a storage as an item of `capabilities`
 abbrev pub storage_data : Storage → Data
 storage_data s = object_of (storage_pairs s)
 
--- a use of a debug protocol
+-- a use of a debug protocol as an item of `use`
 abbrev pub debug_use_data : DebugUse → Data
 debug_use_data u = object_of (debug_use_pairs u)
 
--- a use of a storage
+-- a use of a storage as an item of `use`
 abbrev pub storage_use_data : StorageUse → Data
 storage_use_data u = object_of (storage_use_pairs u)
 
--- an offer of a storage
+-- an offer of a storage as an item of `offer`
 abbrev pub storage_offer_data : StorageOffer → Data
 storage_offer_data o = object_of (storage_offer_pairs o)
 
--- a row of `environments`
+-- an environment as an item of `environments`
 abbrev pub environment_data : Environment → Data
 environment_data e = object_of (environment_pairs e)
 
--- a row of `children`
+-- a child as an item of `children`
 abbrev pub child_data : Child → Data
 child_data c = object_of (child_pairs c)
 
--- a row of `collections`
+-- a collection as an item of `collections`
 abbrev pub collection_data : Collection → Data
 collection_data c = object_of (collection_pairs c)
 
--- a row of `capabilities` that is routed
+-- a protocol or a directory as an item of `capabilities`
 abbrev pub capability_data : Capability → Data
 capability_data c = object_of (capability_pairs c)
 
--- a row of `use` that is routed
+-- a use of a protocol or a directory as an item of `use`
 abbrev pub use_data : Usage → Data
 use_data u = object_of (use_pairs u)
 
--- a row of `offer` that is routed
+-- an offer of a protocol or a directory as an item of `offer`
 abbrev pub offer_data : Offer → Data
 offer_data o = object_of (offer_pairs o)
 
--- a row of `expose`
+-- an expose as an item of `expose`
 abbrev pub expose_data : Give → Data
 expose_data g = object_of (give_pairs g)
 
 -- ---- the declaration
 
--- the members of a program
+-- the members of `program`
 abbrev pub runner_pairs : List ℕ → Pairs
 runner_pairs runner = (codes "runner", string runner) ∷ []
 
--- `program` where there is a runner
+-- the member `program`, where there is a runner
 abbrev pub program_pair : Option (List ℕ) → Pairs
 program_pair None = []
 program_pair (Some runner) = (codes "program", object_of (runner_pairs runner)) ∷ []
 
--- the items of `capabilities`: what is routed, then storages
+-- the items of `capabilities`: protocols and directories, then storages
 abbrev pub capability_items : Decl → List Data
 capability_items d = map capability_data d.capabilities ++ map storage_data d.storages
 
--- the items of `use`: what is routed, then debug protocols, then storages
+-- the items of `use`: protocols and directories, then debug protocols, then storages
 abbrev pub use_items : Decl → List Data
 use_items d = map use_data d.uses ++ (map debug_use_data d.debug_uses ++ map storage_use_data d.storage_uses)
 
--- the items of `offer`: what is routed, then storages
+-- the items of `offer`: protocols and directories, then storages
 abbrev pub offer_items : Decl → List Data
 offer_items d = map offer_data d.offers ++ map storage_offer_data d.storage_offers
 
--- `environments` where there are any
+-- the member `environments`, where there are some
 abbrev pub environments_pair : List Environment → Pairs
 environments_pair [] = []
 environments_pair (e ∷ es) = (codes "environments", list_of environment_data (e ∷ es)) ∷ []
 
--- the sections: all that list rows, but `environments` only where there are any, and `program` where there is
--- a runner
+-- the members of a manifest: `environments` and `program` only where there is something to write, all
+-- others always
 abbrev pub decl_pairs : Decl → Pairs
 decl_pairs d =
     (codes "children", list_of child_data d.children)
@@ -286,10 +286,10 @@ decl_pairs d =
     ∷ (codes "expose", list_of expose_data d.exposes)
     ∷ (environments_pair d.environments ++ program_pair d.runner)
 
--- the value of a declaration
+-- the declaration as a JSON object
 abbrev pub decl_data : Decl → Data
 decl_data d = object_of (decl_pairs d)
 
--- compact JSON
+-- the text of a declaration, as compact JSON
 abbrev pub decl_text : Decl → List ℕ
 decl_text d = compact_text (decl_data d)

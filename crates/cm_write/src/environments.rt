@@ -55,6 +55,7 @@ impl WritableRow for Environment {
 
     ghost writes = { environment_data };
 
+    /// An item of `environments`, with all four members.
     fn write(&self, alloc: Global) -> Result<Value, Memory> {
         let mut members = Map::new(alloc);
         put_text(alloc, &mut members, "name", self.name.as_str())?;

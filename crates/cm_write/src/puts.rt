@@ -54,12 +54,13 @@ impl WritableRow for Text {
 
     ghost writes = { string };
 
+    /// The text as a JSON string.
     fn write(&self, alloc: Global) -> Result<Value, Memory> {
         Ok(Value::try_from_str(alloc, self.as_str())?)
     }
 }
 
-/// The field of a kind.
+/// The field that names a capability of this kind: `protocol` or `directory`.
 pub fn word_of(kind: Kind) -> &'static str
     ensures { result.now ≡ kind_word kind }
 {
@@ -69,14 +70,14 @@ pub fn word_of(kind: Kind) -> &'static str
     }
 }
 
-/// The word of `startup`.
+/// The word that `startup` has for it.
 pub fn startup_word(eager: bool) -> &'static str
     ensures { result.now ≡ spec.startup_word eager }
 {
     if eager { "eager" } else { "lazy" }
 }
 
-/// The word of `allowed_offers`.
+/// The word that `allowed_offers` has for it.
 pub fn offers_word(dynamic_offers: bool) -> &'static str
     ensures { result.now ≡ spec.offers_word dynamic_offers }
 {
@@ -87,7 +88,7 @@ pub fn offers_word(dynamic_offers: bool) -> &'static str
     }
 }
 
-/// The word of `durability`.
+/// The word that `durability` has for it.
 pub fn durability_word(durability: Durability) -> &'static str
     ensures { result.now ≡ spec.durability_word durability }
 {
@@ -97,7 +98,7 @@ pub fn durability_word(durability: Durability) -> &'static str
     }
 }
 
-/// The word of `dependency`.
+/// The word that `dependency` has for it.
 pub fn dependency_word(dependency: Dependency) -> &'static str
     ensures { result.now ≡ names.dependency_word dependency }
 {
@@ -107,7 +108,7 @@ pub fn dependency_word(dependency: Dependency) -> &'static str
     }
 }
 
-/// The word of `availability`.
+/// The word that `availability` has for it.
 pub fn availability_word(availability: Availability) -> &'static str
     ensures { result.now ≡ names.availability_word availability }
 {
@@ -119,7 +120,7 @@ pub fn availability_word(availability: Availability) -> &'static str
     }
 }
 
-/// The word of `storage_id`.
+/// The word that `storage_id` has for it.
 pub fn storage_id_word(by_moniker: bool) -> &'static str
     ensures { result.now ≡ spec.storage_id_word by_moniker }
 {
@@ -130,14 +131,14 @@ pub fn storage_id_word(by_moniker: bool) -> &'static str
     }
 }
 
-/// The word of `extends`.
+/// The word that `extends` has for it.
 pub fn extends_word(extends: bool) -> &'static str
     ensures { result.now ≡ spec.extends_word extends }
 {
     if extends { "realm" } else { "none" }
 }
 
-/// `#` and the name.
+/// A reference to a name: `#` and the name. `Err` comes where memory runs out.
 fn reference(alloc: Global, name: &Name) -> Result<Text, Memory>
     ensures { IfOk result (λ text. text ≡ spec.reference name.now) }
 {
@@ -177,7 +178,7 @@ pub fn put_text(
     serde_json::put(members, alloc, key, value)
 }
 
-/// Puts `from` among the members.
+/// Puts the member `from` of this source among an item's members. `Err` comes where memory runs out.
 pub fn put_from(
     alloc: Global,
     members: &mut Map<String, Value>,

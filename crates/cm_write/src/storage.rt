@@ -13,6 +13,7 @@ impl WritableRow for Storage {
 
     ghost writes = { storage_data };
 
+    /// An item of `capabilities`.
     fn write(&self, alloc: Global) -> Result<Value, Memory> {
         let mut members = Map::new(alloc);
         put_text(alloc, &mut members, "storage", self.name.as_str())?;
@@ -34,6 +35,7 @@ impl WritableRow for StorageUse {
 
     ghost writes = { storage_use_data };
 
+    /// An item of `use`; storages are used from the parent alone.
     fn write(&self, alloc: Global) -> Result<Value, Memory> {
         plain_use(alloc, "storage", &self.name, "parent", &self.path)
     }
@@ -44,6 +46,7 @@ impl WritableRow for StorageOffer {
 
     ghost writes = { storage_offer_data };
 
+    /// An item of `offer`.
     fn write(&self, alloc: Global) -> Result<Value, Memory> {
         let mut members = Map::new(alloc);
         put_text(alloc, &mut members, "storage", self.source_name.as_str())?;

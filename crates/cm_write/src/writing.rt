@@ -21,6 +21,7 @@ impl WritableRow for Child {
 
     ghost writes = { child_data };
 
+    /// An item of `children`, with defaults written out.
     fn write(&self, alloc: Global) -> Result<Value, Memory> {
         let mut members = Map::new(alloc);
         put_text(alloc, &mut members, "name", self.name.as_str())?;
@@ -36,6 +37,7 @@ impl WritableRow for Collection {
 
     ghost writes = { collection_data };
 
+    /// An item of `collections`, with defaults written out.
     fn write(&self, alloc: Global) -> Result<Value, Memory> {
         let mut members = Map::new(alloc);
         put_text(alloc, &mut members, "name", self.name.as_str())?;
@@ -61,6 +63,7 @@ impl WritableRow for Capability {
 
     ghost writes = { capability_data };
 
+    /// An item of `capabilities`.
     fn write(&self, alloc: Global) -> Result<Value, Memory> {
         let mut members = Map::new(alloc);
         put_text(alloc, &mut members, word_of(self.kind), self.name.as_str())?;
@@ -98,6 +101,7 @@ impl WritableRow for Usage {
 
     ghost writes = { use_data };
 
+    /// An item of `use`, with defaults written out.
     fn write(&self, alloc: Global) -> Result<Value, Memory> {
         let mut members = Map::new(alloc);
         put_use(alloc, &mut members, self)?;
@@ -132,6 +136,7 @@ impl WritableRow for DebugUse {
 
     ghost writes = { debug_use_data };
 
+    /// An item of `use` from `debug`.
     fn write(&self, alloc: Global) -> Result<Value, Memory> {
         plain_use(alloc, "protocol", &self.name, "debug", &self.path)
     }
@@ -142,6 +147,7 @@ impl WritableRow for Offer {
 
     ghost writes = { offer_data };
 
+    /// An item of `offer`, with defaults written out.
     fn write(&self, alloc: Global) -> Result<Value, Memory> {
         let mut members = Map::new(alloc);
         put_to(alloc, &mut members, &self.to)?;
@@ -161,6 +167,7 @@ impl WritableRow for Give {
 
     ghost writes = { expose_data };
 
+    /// An item of `expose`, with defaults written out.
     fn write(&self, alloc: Global) -> Result<Value, Memory> {
         let mut members = Map::new(alloc);
         put_give(alloc, &mut members, self)?;
@@ -229,7 +236,7 @@ fn put_capabilities(
     put_values(alloc, members, "capabilities", values)
 }
 
-/// Puts `use` among the members: behind the others those of debug protocols, then those of storages.
+/// Puts `use` among the members: after the others those of debug protocols, then those of storages.
 fn put_uses(alloc: Global, members: &mut Map<String, Value>, decl: &Decl) -> Result<(), Memory>
     ensures { OnOk result
         (Puts members.old.entries members.new.entries

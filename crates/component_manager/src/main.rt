@@ -3,7 +3,7 @@
 //!
 //! [`cm_program::run::run`] is the top call. `main` makes the standard streams, the door and the gates
 //! for it, and ends by [`ended`], which asks for what that very call promises. Where a place is told for the
-//! journal of a service, [`cm_keep`] keeps it there, before and behind that call.
+//! journal of a service, [`cm_keep`] keeps it there, before and after that call.
 #![tactic(auto)]
 
 ghost use Rattle.std.specs.Prelude.{◌≡◌, IfOk, if◌then◌else◌, length, nat_eq};
@@ -24,7 +24,7 @@ use std::sync::Wait;
 use std::thread::Threads;
 use std::{env, io, process};
 
-/// The words behind the program's name. Words that can't be read are no words of a command.
+/// The words after the program's name. Words that can't be read are no words of a command.
 fn words<R: env::Env + Alloc<A = Global>>(rt: &R) -> Result<List<Text>, Memory> {
     match read_words(rt) {
         Ok(words) => Ok(words),
@@ -35,6 +35,8 @@ fn words<R: env::Env + Alloc<A = Global>>(rt: &R) -> Result<List<Text>, Memory> 
     }
 }
 
+/// The words of the command line without the program's name. It fails where one isn't UTF-8, or memory
+/// runs out.
 fn read_words<R: env::Env + Alloc<A = Global>>(rt: &R) -> io::Result<List<Text>> {
     let mut words = Vec::new(rt.alloc());
     for word in env::args(rt)?.skip(1) {
@@ -170,6 +172,7 @@ fn outside_of(
     Ok((gates, keeping))
 }
 
+/// Runs the program once over the standard streams and a socket door, and ends with its status.
 fn main(rt: HostRuntime) -> ExitCode {
     let mut input = Reading::new(rt.stdin());
     let output = rt.stdout();

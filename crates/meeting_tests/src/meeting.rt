@@ -32,6 +32,8 @@ const ONE: &str = "\
     out 0 refused 83 cannot-resolve action 2 gate-failed\n\
     told faults 1";
 
+/// Two lanes whose fetches wait for each other both go on, and what comes of the run is one of the
+/// cases' ends.
 #[test]
 fn lanes_meet(rt: HostRuntime) {
     for case in [BOTH, ONE] {

@@ -4,6 +4,7 @@ use cm_io::SocketDoor;
 use program_player::{ask, closed, serve};
 use std::{fs, thread};
 
+/// A door over Unix sockets serves a client that a second thread plays.
 #[test]
 fn sockets_are_served(rt: HostRuntime) {
     let _ = fs::remove_dir_all(&rt, "socket_folder");

@@ -17,6 +17,7 @@ fn link_of(alloc: Global, part: &str) -> Option<LinkPlan> {
     }
 }
 
+/// A link that gives these bytes and fails as the part's words say; `None` where they can't be read.
 fn link_with(alloc: Global, part: &str, bytes: Bytes) -> Option<LinkPlan> {
     match plan_of(alloc, part, "read") {
         Some(source) => match plan_of(alloc, part, "write") {
@@ -47,7 +48,7 @@ fn links_of(alloc: Global, case: &str) -> Option<VecDeque<LinkPlan>> {
     Some(links)
 }
 
-/// The door of a case.
+/// The door of a case, by its lines; `None` where they can't be read.
 pub fn door_of(alloc: Global, case: &str) -> Option<MemoryDoor>
     ensures { IfSome result (λ door. door.listening ≡ false) }
 {

@@ -45,6 +45,7 @@ pub fn are_known_ends(ends: &str) -> bool {
     true
 }
 
+/// Whether a line of the ends is a status, is empty, or begins with a word that is known.
 fn is_known(line: &str) -> bool {
     match line.split_once(' ') {
         Some((word, _)) => is_one_of(WORDS, word),
@@ -125,6 +126,7 @@ fn push_said(bytes: &mut Vec<u8>, each: &str, line: &str, text: &str) -> Option<
     }
 }
 
+/// The word that is told for the answer to a fetch.
 fn word_of(answer: &Fetched) -> &'static str {
     match answer {
         Fetched::Found(_) => "found",
@@ -155,6 +157,7 @@ fn push_asked(told: &mut Text, lane: usize, asked: &GateCall) -> Result<(), Memo
     }
 }
 
+/// Adds the log of a lane's gates to what is told, or that it isn't told.
 fn push_log(told: &mut Text, lane: usize, log: Option<&[GateCall]>) -> Result<(), Memory> {
     let Some(log) = log else {
         return told.push(format_args!("{lane} untold\n"));

@@ -2,21 +2,21 @@
 //!
 //! The input is made of lines in their order: `| ` and a line, `+ ` and a text that no line feed
 //! ends, `@` and the name of a text of `manifests`, `fill`, a byte and how often it stands there, or
-//! `names`, a prefix and how many names in quotes begin with it, each with its number and a comma behind it.
+//! `names`, a prefix and how many names in quotes begin with it, each with its number and a comma after it.
 //! The other words, each of which may be left out:
 //!
 //! - `piece`: how many bytes one read or write moves at most;
 //! - `read`, `write` and `say`: the read that fails, the write on the output, and the one on the
 //!   error stream;
 //! - `held`: the name of a block whose manifest the gates of each lane have, and how many spaces
-//!   stand behind it;
+//!   stand after it;
 //! - `declined`: the URL of a component whose program is declined;
 //! - `failing`: a lane, and a call of its gates that fails;
 //! - `room`: how many questions the gates of a lane have room to note;
 //! - `runs`: how often the case is run, each time over new gates;
 //! - `again`: the word of a further run, whose input is what the run wrote, and of which the ends tell;
 //! - `door`: the call of the door that fails, from 0 on, which is the listen;
-//! - `link`: a link that the door gives begins, with any name. What it gives is said by the lines behind
+//! - `link`: a link that the door gives begins, with any name. What it gives is said by the lines after
 //!   it as the input is, and `piece`, `read` and `write` among them are its own.
 
 use super::manifests::named;
@@ -30,7 +30,7 @@ use std::alloc::Global;
 const WORDS: &str =
     "| + fill names piece read write say held declined failing room runs again door link";
 
-/// Whether each line behind the first begins with a word that is known.
+/// Whether each line after the first begins with a word that is known.
 pub fn are_known(case: &str) -> bool {
     let Some((_, lines)) = case.split_once('\n') else {
         return true;
@@ -43,6 +43,7 @@ pub fn are_known(case: &str) -> bool {
     true
 }
 
+/// Whether a line of a case begins with a word that is known, or with `@`.
 fn is_known(line: &str) -> bool {
     match line.split_once(' ') {
         Some((word, _)) => is_one_of(WORDS, word),
@@ -50,7 +51,7 @@ fn is_known(line: &str) -> bool {
     }
 }
 
-/// What stands behind the first line that begins with this word.
+/// What stands after the first line that begins with this word.
 fn value_of<'a>(case: &'a str, word: &str) -> Option<&'a str> {
     for line in case.split('\n') {
         if let Some((first, value)) = line.split_once(' ') {
@@ -62,7 +63,7 @@ fn value_of<'a>(case: &'a str, word: &str) -> Option<&'a str> {
     None
 }
 
-/// The number behind the first line that begins with this word, or else this one.
+/// The number after the first line that begins with this word, or else this one.
 pub fn number_of(case: &str, word: &str, other: u64) -> Option<u64> {
     match value_of(case, word) {
         Some(value) => value.parse().ok(),
@@ -70,7 +71,7 @@ pub fn number_of(case: &str, word: &str, other: u64) -> Option<u64> {
     }
 }
 
-/// What stands behind each line that begins with this word.
+/// What stands after each line that begins with this word.
 pub fn values_of(alloc: Global, case: &str, word: &str) -> Option<Vec<Text>> {
     let mut values = Vec::new(alloc);
     for line in case.split('\n') {
@@ -83,10 +84,12 @@ pub fn values_of(alloc: Global, case: &str, word: &str) -> Option<Vec<Text>> {
     Some(values)
 }
 
+/// The text, copied; `None` where memory runs out.
 fn text_of(alloc: Global, text: &str) -> Option<Text> {
     Text::from_str(alloc, text).ok()
 }
 
+/// Adds a value to the list; `None` where memory runs out.
 fn push_value(alloc: Global, values: &mut Vec<Text>, value: &str) -> Option<()> {
     match text_of(alloc, value) {
         Some(value) => values.push(value).ok(),
@@ -107,7 +110,7 @@ pub fn words_of(alloc: Global, case: &str) -> Option<Vec<Text>> {
     Some(words)
 }
 
-/// Puts a byte behind these, so many times.
+/// Puts a byte after these, so many times.
 fn fill(bytes: &mut Vec<u8>, byte: u8, count: u64) -> Option<()> {
     for _ in 0..count {
         bytes.push(byte).ok()?;
@@ -155,7 +158,7 @@ fn push_names(alloc: Global, bytes: &mut Vec<u8>, prefix: &str, count: u64) -> O
     push_text(bytes, names.as_str())
 }
 
-/// Puts down a text.
+/// Adds a text to the bytes; `None` where memory runs out.
 pub fn push_text(bytes: &mut Vec<u8>, text: &str) -> Option<()> {
     bytes.extend_from_slice(text.as_bytes()).ok()
 }
@@ -177,7 +180,7 @@ pub fn input_of(alloc: Global, case: &str) -> Option<Vec<u8>> {
     Some(bytes)
 }
 
-/// How much one read or write moves, and the one that fails: that behind this word, if at all.
+/// How much one read or write moves, and the one that fails: that after this word, if at all.
 pub fn plan_of(alloc: Global, case: &str, word: &str) -> Option<FaultPlan> {
     let piece = usize::try_from(number_of(case, "piece", u64::MAX)?).ok()?;
     match failing_of(alloc, case, word) {
@@ -189,7 +192,7 @@ pub fn plan_of(alloc: Global, case: &str, word: &str) -> Option<FaultPlan> {
     }
 }
 
-/// The call behind this word, which fails, if there is one.
+/// The call after this word, which fails, if there is one.
 pub fn failing_of(alloc: Global, case: &str, word: &str) -> Option<Vec<u64>> {
     match value_of(case, word) {
         Some(call) => {
@@ -245,14 +248,14 @@ fn parts_of(block: &str) -> (&str, &str) {
     }
 }
 
-/// The bytes of a text, with so many spaces behind them.
+/// The bytes of a text, with so many spaces after them.
 fn spaced(alloc: Global, text: &str, spaces: u64) -> Option<Vec<u8>> {
     let mut bytes = text.as_bytes().to_vec(alloc).ok()?;
     fill(&mut bytes, b' ', spaces)?;
     Some(bytes)
 }
 
-/// The manifest of a named block, with so many spaces behind it.
+/// The manifest of a named block, with so many spaces after it.
 fn manifest_of(alloc: Global, held: &str) -> Option<Manifest> {
     let (name, spaces) = held.split_once(' ')?;
     let (url, text) = parts_of(named(name)?);

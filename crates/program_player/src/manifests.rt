@@ -2,7 +2,7 @@
 
 use super::texts::named_in;
 
-/// The text of a name.
+/// The manifest that cases call by this name.
 pub fn named(name: &str) -> Option<&'static str> {
     named_in(TEXTS, name)
 }

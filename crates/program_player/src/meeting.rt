@@ -56,6 +56,7 @@ fn told_by(alloc: Global, gates: &[MeetingGates]) -> Option<Text> {
     Some(told)
 }
 
+/// What differs between what came of a run with these gates and the case's ends, if something does.
 fn odd_played(alloc: Global, played: &Played<MeetingGates>, ends: &str) -> Option<Option<Text>> {
     let told = told_by(alloc, played.ran.gates.as_slice())?;
     odd_end(alloc, played, told.as_str(), ends)

@@ -48,6 +48,7 @@ pub struct Played<G> {
     sides: Sides,
 }
 
+/// A sink that fails as the case's lines with this word say; `None` where they can't be read.
 fn sink_of(alloc: Global, case: &str, word: &str) -> Option<MemorySink> {
     match plan_of(alloc, case, word) {
         Some(plan) => Some(MemorySink::new(alloc, plan)),
@@ -55,6 +56,7 @@ fn sink_of(alloc: Global, case: &str, word: &str) -> Option<MemorySink> {
     }
 }
 
+/// The input, the output and the error stream of a case; `None` where its lines can't be read.
 fn sides_of(alloc: Global, case: &str) -> Option<Sides> {
     match source_of(alloc, case) {
         Some(input) => sides_with(alloc, case, input),
@@ -62,6 +64,7 @@ fn sides_of(alloc: Global, case: &str) -> Option<Sides> {
     }
 }
 
+/// The input that is given, with the case's output and error stream.
 fn sides_with(alloc: Global, case: &str, input: MemorySource) -> Option<Sides> {
     match sink_of(alloc, case, "write") {
         Some(out) => match sink_of(alloc, case, "say") {
@@ -79,6 +82,7 @@ fn sides_with(alloc: Global, case: &str, input: MemorySource) -> Option<Sides> {
     }
 }
 
+/// All that a run of this case is given but its gates; `None` where its lines can't be read.
 fn arguments_of(alloc: Global, case: &str) -> Option<Arguments>
     ensures { IfSome result (λ given. given.door.listening ≡ false) }
 {
@@ -88,6 +92,7 @@ fn arguments_of(alloc: Global, case: &str) -> Option<Arguments>
     }
 }
 
+/// All that a run of this case is given but its gates, with the words of its command line.
 fn arguments_with(alloc: Global, case: &str, words: Vec<Text>) -> Option<Arguments>
     ensures { IfSome result (λ given. given.door.listening ≡ false) }
 {
@@ -160,6 +165,7 @@ pub fn come<R: Threads + Wait + Sync, G: Gates + Send + Drop>(
     }
 }
 
+/// Runs the program once on these arguments and gates, and keeps all that comes back.
 fn play<R: Threads + Wait + Sync, G: Gates + Send + Drop>(
     rt: &R,
     alloc: Global,
@@ -223,6 +229,7 @@ fn arguments_again(alloc: Global, case: &str, words: Vec<Text>, wrote: &[u8]) ->
     }
 }
 
+/// What a run is given that reads what another run wrote; `None` where the case's lines can't be read.
 fn arguments_on(
     alloc: Global,
     case: &str,
@@ -247,6 +254,7 @@ fn arguments_on(
     }
 }
 
+/// Runs the program on these arguments with the case's gates; `None` where there are none.
 fn play_again<R: Threads + Wait + Sync>(
     rt: &R,
     alloc: Global,
@@ -276,6 +284,7 @@ fn gate_plan_of(alloc: Global, case: &str, lane: usize) -> Option<GatePlan> {
     }
 }
 
+/// The plan of a lane's gates by the lines of a case; `None` where they can't be read.
 fn gate_plan_with(
     alloc: Global,
     case: &str,
@@ -304,6 +313,7 @@ fn gate_plan_with(
     }
 }
 
+/// The gates of a lane by the lines of a case; `None` where they can't be read.
 fn gates_of(alloc: Global, case: &str, lane: usize) -> Option<PlannedGates> {
     match gate_plan_of(alloc, case, lane) {
         Some(plan) => Some(PlannedGates::new(alloc, plan)),
@@ -311,6 +321,7 @@ fn gates_of(alloc: Global, case: &str, lane: usize) -> Option<PlannedGates> {
     }
 }
 
+/// The gates of all sixteen lanes by the lines of a case; `None` where they can't be read.
 fn planned_gates(alloc: Global, case: &str) -> Option<List<PlannedGates>>
     ensures { IfSome result (λ gates. length gates ≡ 16) }
 {
@@ -343,6 +354,8 @@ fn odd_run<R: Threads + Wait + Sync>(
     }
 }
 
+/// What differs between the last run of a case and its ends, if something does; the outer `None` where
+/// memory ran out or the case can't be read.
 fn odd_last<R: Threads + Wait + Sync>(
     rt: &R,
     alloc: Global,
@@ -360,6 +373,7 @@ fn odd_last<R: Threads + Wait + Sync>(
     }
 }
 
+/// What differs between what came of a run and the case's ends, if something does.
 fn odd_played(alloc: Global, played: &Played<PlannedGates>, ends: &str) -> Option<Option<Text>> {
     let told = told_by(alloc, played.ran.gates.as_slice())?;
     odd_end(alloc, played, told.as_str(), ends)
@@ -388,6 +402,7 @@ pub fn odd_end<G>(
     compared(alloc, &came, ends)
 }
 
+/// What came of a run, where it is none of the case's ends.
 fn compared(alloc: Global, came: &RunSummary<'_>, ends: &str) -> Option<Option<Text>> {
     if is_an_end(alloc, came, ends)? {
         return Some(None);

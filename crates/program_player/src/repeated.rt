@@ -17,6 +17,7 @@ pub fn expanded(alloc: Global, case: &str) -> Option<Text> {
     }
 }
 
+/// The case with each `$WORD$` replaced by the long text of that name.
 fn replaced(alloc: Global, case: &str) -> Option<Text> {
     let mut text = Text::new(alloc);
     let mut is_name = false;

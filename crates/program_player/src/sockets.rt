@@ -32,12 +32,15 @@ const TRIES: u32 = 10_000_000;
 /// What the second client reads up to its end, the third, and then the first.
 const SECOND: &str = "shown . incarnation 0 url fuchsia-pkg://t/a#meta/root.cm unresolved off\n";
 
+/// What the third client reads.
 const THIRD: &str = "refused 70 bad-command at 0\n";
 
+/// What the first client reads.
 const FIRST: &str = "\
     shown . incarnation 0 url fuchsia-pkg://t/a#meta/root.cm unresolved off\n\
     refused 83 cannot-resolve action 1 absent\n";
 
+/// Sixteen gates that know no manifest; `None` where memory runs out.
 fn quiet_gates(alloc: Global) -> Option<List<QuietGates>>
     ensures { IfSome result (λ gates. length gates ≡ 16) }
 {
@@ -75,6 +78,7 @@ where
     }
 }
 
+/// Runs `serve` over this door: its status, how many links came back, and the door.
 fn served<R: Threads + Wait + Sync, D: Door + Send>(
     rt: &R,
     alloc: Global,
@@ -130,7 +134,7 @@ fn client<N: Net>(system: &N) -> Option<UnixStream> {
     None
 }
 
-/// What a client that sends these lines reads behind, up to its end.
+/// What a client that sends these lines reads after, up to its end.
 fn told_to(alloc: Global, client: &mut UnixStream, lines: &str) -> Option<Vec<u8>> {
     if client.write_all(lines.as_bytes()).is_err() {
         return None;
@@ -166,6 +170,7 @@ pub fn ask<N: Net>(system: &N, alloc: Global) -> [bool; 3] {
     }
 }
 
+/// Whether exactly this was read.
 fn is_told(told: Option<Vec<u8>>, wanted: &str) -> bool {
     match told {
         Some(told) => told.as_slice() == wanted.as_bytes(),

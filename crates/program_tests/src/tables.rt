@@ -62,6 +62,7 @@ fn table_of(number: u8) -> &'static str {
     }
 }
 
+/// Each case of all tables comes to one of its ends.
 #[test]
 fn runs_come_to_their_ends(rt: HostRuntime) -> Result<(), Fail> {
     for number in 0..32 {
@@ -71,6 +72,7 @@ fn runs_come_to_their_ends(rt: HostRuntime) -> Result<(), Fail> {
     Ok(())
 }
 
+/// Scripts above the limits of size are refused, as their cases say.
 #[test]
 fn the_largest_scripts_are_refused(rt: HostRuntime) -> Result<(), Fail> {
     let odd = odd_cases(&rt, rt.alloc(), refusals::LARGEST)?;
@@ -78,6 +80,7 @@ fn the_largest_scripts_are_refused(rt: HostRuntime) -> Result<(), Fail> {
     Ok(())
 }
 
+/// Large generated workloads come to the ends that their cases say.
 #[test]
 fn large_workloads_run(rt: HostRuntime) -> Result<(), Fail> {
     let odd = odd_cases(&rt, rt.alloc(), generated::LARGE)?;
@@ -85,7 +88,7 @@ fn large_workloads_run(rt: HostRuntime) -> Result<(), Fail> {
     Ok(())
 }
 
-/// A table in which the second case is wrong, and those behind it can't be read.
+/// A table in which the second case is wrong, and those after it can't be read.
 const WRONG: &str = "\
     == serve\n\
     => 2\n\
@@ -117,7 +120,8 @@ const ODD: &str = "\
     => two\n\
     can't be read\n";
 
-/// Whether this is told of the odd cases of a table.
+/// Whether playing the table tells exactly this of the cases that come to something else than they say,
+/// or can't be read.
 fn is_told<R: Threads + Wait + Sync>(rt: &R, alloc: Global, table: &str, wanted: &str) -> bool {
     match odd_cases(rt, alloc, table) {
         Ok(odd) => odd.as_str() == wanted,
@@ -125,6 +129,7 @@ fn is_told<R: Threads + Wait + Sync>(rt: &R, alloc: Global, table: &str, wanted:
     }
 }
 
+/// The player finds a case that comes to something else, and one that can't be read.
 #[test]
 fn wrong_cases_are_found(rt: HostRuntime) {
     assert!(rt; is_told(&rt, rt.alloc(), WRONG, ODD));

@@ -225,7 +225,7 @@ pub const URLS: &str = "\
     find fuchsia-pkg://t/a\n\
     => added;fault Repeated;added;fault NoFragment;fault BadUrl;{};[1];nothing;nothing;\n";
 
-/// Commands, as they are written; then words of a line, or the place behind which none goes on so.
+/// Commands, as they are written; then words of a line, or the place after which none goes on so.
 pub const COMMANDS: &str = "\
     == command resolve .\n\
     => resolve .\n\

@@ -18,6 +18,7 @@ fn is_put<R: Threads + Wait + Sync>(rt: &R, sink: &mut MemorySink) -> bool {
     put_all(rt, sink, b"sixteen bytes...") == Put::Done
 }
 
+/// A write into room that was reserved doesn't fail.
 #[test]
 fn puts_into_room(rt: HostRuntime) {
     let alloc = rt.alloc();
@@ -104,6 +105,7 @@ fn loses_clients<R: Threads + Wait + Sync + Net, D: Door>(
     }
 }
 
+/// A socket door counts it as a fault where a client is gone before it is served.
 #[test]
 fn loses_clients_of_sockets(rt: HostRuntime) {
     let mut door = SocketDoor::new(rt);

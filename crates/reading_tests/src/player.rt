@@ -2,13 +2,13 @@
 //! into it, so that one more case costs no proof.
 //!
 //! A case begins with `== `, the word of its reader and a space. Then comes what is read, which may
-//! have several lines, and behind `=> ` at the head of a line what is told of it.
+//! have several lines, and after `=> ` at the head of a line what is told of it.
 
 use crate::readers::told;
 use cm_names::{Memory, Text};
 use std::alloc::Global;
 
-/// The cases that tell something else, or that can't be read: each, and behind it what it tells.
+/// The cases that tell something else, or that can't be read: each, and after it what it tells.
 pub fn odd_cases(alloc: Global, table: &str) -> Result<Text, Memory> {
     let mut odd = Text::new(alloc);
     for case in table.split("== ") {
@@ -27,6 +27,7 @@ fn push_if_odd(alloc: Global, odd: &mut Text, case: &str) -> Result<(), Memory> 
     }
 }
 
+/// Adds a case to the odd ones, where it is told otherwise now.
 fn push_if_else(odd: &mut Text, case: &str, again: &str) -> Result<(), Memory> {
     if case == again {
         return Ok(());
@@ -44,6 +45,7 @@ fn retold(alloc: Global, case: &str) -> Option<Text> {
     }
 }
 
+/// A case as its table has it: what is read, and after an arrow what is told of it.
 fn written(alloc: Global, read: &str, told: &str) -> Option<Text> {
     let mut case = Text::new(alloc);
     case.push(format_args!("{read}\n=> {told}\n")).ok()?;
@@ -83,6 +85,7 @@ fn is_told(alloc: Global, table: &str, wanted: &str) -> bool {
     }
 }
 
+/// The player finds a case that is told otherwise, and one that can't be read.
 #[test]
 fn finds_wrong_cases(rt: HostRuntime) {
     assert!(rt; is_told(rt.alloc(), WRONG, ODD));

@@ -10,7 +10,7 @@ use std::alloc::Global;
 use std::fmt;
 
 /// What the reader of that word tells of a text. A fault that has no text of its own is told as
-/// `fault`, and its value behind that.
+/// `fault`, and its value after that.
 pub fn told(alloc: Global, reader: &str, input: &str) -> Option<Text> {
     match reader {
         "subdir" => subdir(alloc, input),
@@ -47,7 +47,7 @@ fn told_of_large(alloc: Global, reader: &str, input: &str) -> Option<Text> {
     }
 }
 
-/// A fault, by its value.
+/// A fault, as its type writes it for debugging; `None` where memory runs out.
 pub fn fault<D: fmt::Debug + Drop>(alloc: Global, fault: D) -> Option<Text> {
     let mut text = Text::new(alloc);
     text.push(format_args!("fault {fault:?}")).ok()?;
@@ -93,7 +93,7 @@ fn moniker(alloc: Global, input: &str) -> Option<Text> {
     }
 }
 
-/// A relaxed text, as JSON.
+/// The JSON of a relaxed text, or its fault.
 fn json(alloc: Global, input: &str) -> Option<Text> {
     if input.len() > 1_048_576 {
         return None;
@@ -140,6 +140,7 @@ fn written_again(alloc: Global, line: &[u8]) -> Option<Text> {
     }
 }
 
+/// The line that a command is written as; `None` where memory runs out.
 fn written(alloc: Global, command: &Command) -> Option<Text> {
     write_command(alloc, command).ok()
 }
@@ -163,7 +164,7 @@ fn is_settled(alloc: Global, line: &str) -> bool {
 }
 
 /// What a reader tells of a large text, of which lines tell the reader and how often one text
-/// stands in the middle, what stands in front, the text, and what stands behind.
+/// stands in the middle, what stands in front, the text, and what stands after.
 fn many(alloc: Global, input: &str) -> Option<Text> {
     let (head, rest) = input.split_once('\n')?;
     let (reader, times) = head.split_once(' ')?;
@@ -173,6 +174,7 @@ fn many(alloc: Global, input: &str) -> Option<Text> {
     }
 }
 
+/// What a reader tells of a large text, shortened; `None` where it can't be told.
 fn told_of_whole(alloc: Global, reader: &str, whole: &str) -> Option<Text> {
     match told_of_large(alloc, reader, whole) {
         Some(text) => shortened(alloc, text),

@@ -5,6 +5,7 @@ use crate::player::odd_cases;
 use cm_command::ScriptNumber;
 use std::test::Fail;
 
+/// The table of this number; empty above the last.
 fn table_of(number: u8) -> &'static str {
     match number {
         0 => cases::NAMES,
@@ -18,6 +19,7 @@ fn table_of(number: u8) -> &'static str {
     }
 }
 
+/// Each case of all tables is told as it says.
 #[test]
 fn readers_tell_what_they_should(rt: HostRuntime) -> Result<(), Fail> {
     for number in 0..7 {
@@ -27,6 +29,7 @@ fn readers_tell_what_they_should(rt: HostRuntime) -> Result<(), Fail> {
     Ok(())
 }
 
+/// A script's fault has its number and its word.
 #[test]
 fn numbers_script_faults(rt: HostRuntime) {
     let number = ScriptNumber::LineTooLong;

@@ -15,6 +15,7 @@ pub fn url(alloc: Global, input: &str) -> Option<Text> {
     }
 }
 
+/// The absolute URL of a child, or the URL's fault.
 fn absolute_of(alloc: Global, base: &str, url: &str) -> Result<Text, UrlFault> {
     absolute(alloc, base, url)
 }
@@ -30,6 +31,7 @@ fn added(alloc: Global, repository: &mut Repository, url: &str, block: &str) -> 
     told_of(alloc, repository.add(url, Bytes::from_vec(bytes)))
 }
 
+/// `added`, or the fault, in words.
 fn told_of(alloc: Global, added: Result<(), RepoFault>) -> Option<Text> {
     match added {
         Ok(()) => shown(alloc, "added"),
@@ -38,13 +40,14 @@ fn told_of(alloc: Global, added: Result<(), RepoFault>) -> Option<Text> {
 }
 
 /// Blocks that are added to a repository and looked for in it, line by line: what is told of each,
-/// with a `;` behind it. A line begins with `add` and a block, or with `find`; then comes a URL.
+/// with a `;` after it. A line begins with `add` and a block, or with `find`; then comes a URL.
 pub fn blocks(alloc: Global, input: &str) -> Option<Text> {
     let mut told = Text::new(alloc);
     push_steps(alloc, &mut Repository::new(alloc), input, &mut told)?;
     Some(told)
 }
 
+/// Takes the steps of all lines, and adds what comes of each to what is told.
 fn push_steps(
     alloc: Global,
     repository: &mut Repository,
@@ -57,6 +60,8 @@ fn push_steps(
     Some(())
 }
 
+/// Takes the step of one line, `add BLOCK URL` or `find URL`, and adds what comes of it to what is
+/// told.
 fn push_step(
     alloc: Global,
     repository: &mut Repository,
@@ -71,6 +76,7 @@ fn push_step(
     }
 }
 
+/// Adds a manifest to the repository, and tells what came of it.
 fn push_added(
     alloc: Global,
     repository: &mut Repository,
@@ -83,6 +89,7 @@ fn push_added(
     told.push_str(";").ok()
 }
 
+/// Adds the bytes that were found, or `nothing`, to what is told.
 fn push_found(found: Option<&Bytes>, told: &mut Text) -> Result<(), Memory> {
     let bytes = match found {
         Some(bytes) => bytes.as_slice(),

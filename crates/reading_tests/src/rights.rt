@@ -13,6 +13,7 @@ pub fn rights(alloc: Global, input: &str) -> Option<Text> {
     }
 }
 
+/// The words of a line, as a list; `None` where memory runs out.
 fn words_of(alloc: Global, input: &str) -> Option<List<Text>> {
     let mut words = List::new(alloc);
     if input.is_empty() {

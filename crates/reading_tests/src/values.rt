@@ -15,6 +15,7 @@ pub fn below(alloc: Global, input: &str) -> Option<Text> {
     }
 }
 
+/// Whether the moniker begins with that of this text, in words; `None` where the text is none.
 fn starts_with(alloc: Global, below: &Moniker, above: &str) -> Option<Text> {
     match Moniker::read(alloc, above) {
         Ok(above) => shown(alloc, below.starts_with(&above)),
@@ -36,10 +37,12 @@ fn child_name(alloc: Global, name: &str) -> Option<ChildName> {
     }
 }
 
+/// A copy of a child's name; `None` where memory runs out.
 fn copy_of(name: &ChildName) -> Option<ChildName> {
     name.clone().ok()
 }
 
+/// The moniker of a child with this name below the instance of this moniker.
 fn below_by(alloc: Global, above: &str, name: ChildName) -> Option<Moniker> {
     match Moniker::read(alloc, above) {
         Ok(above) => above.child(alloc, name).ok(),
@@ -47,6 +50,7 @@ fn below_by(alloc: Global, above: &str, name: ChildName) -> Option<Moniker> {
     }
 }
 
+/// The moniker's text; `None` where memory runs out.
 fn written(alloc: Global, moniker: &Moniker) -> Option<Text> {
     moniker.write(alloc).ok()
 }
@@ -57,11 +61,13 @@ pub fn is_root(alloc: Global, input: &str) -> Option<Text> {
     shown(alloc, moniker.is_root())
 }
 
+/// The root's moniker is known as the root's.
 #[test]
 fn knows_the_root(rt: HostRuntime) {
     assert!(rt; Moniker::root(rt.alloc()).is_root());
 }
 
+/// What is required isn't served by what is optional, and the other way it is.
 #[test]
 fn compares_availabilities(rt: HostRuntime) {
     let required = Availability::Required;
@@ -82,6 +88,7 @@ fn in_parts(alloc: Global) -> Option<Text> {
     Some(text)
 }
 
+/// Whether the text that was put together of parts is as it should be, also as a string.
 fn is_in_parts(alloc: Global, text: Text) -> bool {
     let is_so = text.len() == 4 && !text.is_empty() && Text::new(alloc) < text;
     match text.into_string() {
@@ -90,6 +97,7 @@ fn is_in_parts(alloc: Global, text: Text) -> bool {
     }
 }
 
+/// A text keeps what is pushed to it.
 #[test]
 fn keeps_texts(rt: HostRuntime) {
     assert!(rt; in_parts(rt.alloc()).is_some_and(|text| is_in_parts(rt.alloc(), text)));
@@ -111,6 +119,7 @@ fn three(alloc: Global) -> Option<List<Text>> {
     Some(list)
 }
 
+/// Whether a list's copy equals it.
 fn equals_its_copy(list: &List<Text>) -> bool {
     match list.clone() {
         Ok(copied) => copied == *list,
@@ -132,6 +141,7 @@ fn count_made(list: List<Text>) -> usize {
         .count()
 }
 
+/// Lists keep what is put into them, also where they are copied.
 #[test]
 fn keeps_lists(rt: HostRuntime) {
     assert!(rt; three(rt.alloc()).is_some_and(is_kept));
@@ -149,7 +159,7 @@ fn nodes(alloc: Global, names: &str) -> Option<Vec<Node>> {
     Some(nodes)
 }
 
-/// Children with these names and the instance itself, in order, each with a space behind it.
+/// Children with these names and the instance itself, in order, each with a space after it.
 fn ordered(alloc: Global, names: &str) -> Option<Text> {
     let mut nodes = nodes(alloc, names)?;
     nodes.sort().ok()?;
@@ -160,6 +170,7 @@ fn ordered(alloc: Global, names: &str) -> Option<Text> {
     Some(text)
 }
 
+/// Nodes are ordered by how they are written, the component itself first.
 #[test]
 fn orders_nodes_as_written(rt: HostRuntime) {
     let text = ordered(rt.alloc(), "b:b b aa a:z a9 a:b a-b a");

@@ -4,6 +4,7 @@ use cm_book::{Book, BookFault};
 use cm_world::{Entry, Event, Reply};
 use std::alloc::Global;
 
+/// An entry of this caller.
 fn entry(caller: u32) -> Entry {
     Entry {
         caller,
@@ -42,6 +43,7 @@ fn fills(book: &mut Book) -> [bool; 6] {
     ]
 }
 
+/// What comes of filling a book up to its limit of three entries.
 fn filled(alloc: Global) -> [bool; 6] {
     let mut book = Book::new(alloc, 3);
     let told = fills(&mut book);
@@ -49,6 +51,7 @@ fn filled(alloc: Global) -> [bool; 6] {
     told
 }
 
+/// A book takes entries up to its limit, and keeps them in order.
 #[test]
 fn keeps_a_history(rt: HostRuntime) {
     let told = filled(rt.alloc());

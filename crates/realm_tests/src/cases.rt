@@ -13,6 +13,7 @@ const ROOT: &str = "{
     ],
 }";
 
+/// The manifest of a child that provides a protocol and a directory, and exposes both.
 const STORE: &str = "{
     program: { runner: 'elf' },
     capabilities: [ { protocol: 'log' }, { directory: 'data', path: '/data', rights: [ 'r*' ] } ],
@@ -29,8 +30,10 @@ const CLIENT: &str = "{
     ],
 }";
 
+/// A manifest with a collection.
 const COLLECTION: &str = "{collections:[{name:'coll',durability:'transient'}]}";
 
+/// A manifest that provides a protocol and exposes it.
 const PROVIDER: &str = "{capabilities:[{protocol:'p'}],expose:[{protocol:'p',from:'self'}]}";
 
 /// The manifest of that name, or else the word itself.
@@ -231,7 +234,7 @@ pub const SHUTDOWNS: &str = "\
     16 2 mark closing 0 => marked\n\
     17 2 create 0 coll six #new => closing 0\n";
 
-/// What the order picks for a target, which is asked by its name, and behind it the line of the realm's own
+/// What the order picks for a target, which is asked by its name, and after it the line of the realm's own
 /// pick. The client uses what the store has, so that it goes first.
 pub const PICKS: &str = "\
     == pick 9 99 shuts what doesn't run, the client first\n\

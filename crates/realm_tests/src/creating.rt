@@ -6,7 +6,7 @@ use cm_names::{Availability, ChildName, Dependency, List, Moniker, Name, Text};
 use cm_steps::{NoStep, Realm};
 use std::alloc::Global;
 
-/// Creates a child, whose parent isn't read from the words. Behind `+` stands the protocol of a child that
+/// Creates a child, whose parent isn't read from the words. After `+` stands the protocol of a child that
 /// is offered to it alone, if one is.
 pub fn create(
     realm: &mut Realm,
@@ -24,6 +24,8 @@ pub fn create(
     }
 }
 
+/// Creates a child with these names, this URL and these offers; the inner value says why no step was
+/// made.
 fn create_with(
     realm: &mut Realm,
     alloc: Global,
@@ -50,6 +52,7 @@ fn create_with(
     }
 }
 
+/// Has a caller create a child in a collection, and answers why no step was made, if none was.
 fn created(
     realm: &mut Realm,
     alloc: Global,
@@ -92,6 +95,7 @@ fn offered(alloc: Global, offer: &str) -> Option<List<Give>> {
     }
 }
 
+/// A list of this one offer; `None` where memory runs out.
 fn only(alloc: Global, give: Give) -> Option<List<Give>> {
     let mut gives = List::new(alloc);
     match gives.push(give) {
@@ -126,7 +130,7 @@ fn give_of(alloc: Global, protocol: &str, source: &str) -> Option<Give> {
     }
 }
 
-/// A name, and its copy.
+/// A name of this text, and a copy of it; `None` where the text is none.
 fn twice(alloc: Global, word: &str) -> Option<(Name, Name)> {
     match name_of(alloc, word) {
         Some(name) => match name.clone() {
@@ -152,6 +156,7 @@ fn child_of(alloc: Global, word: &str) -> Option<ChildName> {
     }
 }
 
+/// The last name of a moniker; `None` for the root's.
 fn last_of(moniker: &Moniker) -> Option<ChildName> {
     moniker.parts.as_slice().last()?.get().clone().ok()
 }

@@ -18,6 +18,7 @@ pub fn told(alloc: Global, manifest: &str) -> Option<Text> {
     }
 }
 
+/// The graph of a manifest's declaration; `None` where it is none.
 fn graph_of(alloc: Global, manifest: &str) -> Option<Graph> {
     match read_decl(alloc, manifest.as_bytes()) {
         Ok(decl) => Graph::of(alloc, &decl, &[]).ok(),
@@ -25,6 +26,7 @@ fn graph_of(alloc: Global, manifest: &str) -> Option<Graph> {
     }
 }
 
+/// A line with the order of a graph, or with its cycle.
 fn told_of(alloc: Global, order: &Order) -> Option<Text> {
     match order {
         Order::Ordered(nodes) => line_of(alloc, "order", nodes.as_slice()),
@@ -32,7 +34,7 @@ fn told_of(alloc: Global, order: &Order) -> Option<Text> {
     }
 }
 
-/// A word and these nodes.
+/// A line of a word and these nodes.
 fn line_of(alloc: Global, word: &str, nodes: &[Node]) -> Option<Text> {
     let mut line = Text::from_str(alloc, word).ok()?;
     for node in nodes {

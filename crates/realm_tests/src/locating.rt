@@ -23,7 +23,7 @@ struct Counted {
 }
 
 impl Counted {
-    /// Counts one look.
+    /// Counts one look at the table.
     fn count(&self) {
         self.looks.set(self.looks.get().wrapping_add(1));
     }
@@ -34,18 +34,20 @@ impl<L: Ledger> Store<L> for Counted {
 
     ghost next_inc = { λ c. c.table.next_inc };
 
+    /// Counts one look, and asks the table.
     fn is_resolved(&self, inc: u64, steps: &mut StepCount<L>) -> bool {
         self.count();
         self.table.is_resolved(inc, steps)
     }
 
+    /// Counts one look, and asks the table.
     fn child(&self, parent: u64, name: &ChildName, steps: &mut StepCount<L>) -> Option<u64> {
         self.count();
         Store::child(&self.table, parent, name, steps)
     }
 }
 
-/// Where a moniker leads, and in how many looks. The moniker is the first line; each line behind it
+/// Where a moniker leads, and in how many looks. The moniker is the first line; each line after it
 /// resolves an instance by a manifest.
 pub fn told(alloc: Global, input: &str) -> Option<Text> {
     let (moniker, steps) = input.split_once('\n').unwrap_or((input, ""));
@@ -59,6 +61,7 @@ pub fn told(alloc: Global, input: &str) -> Option<Text> {
     }
 }
 
+/// What looking a moniker up in this table comes to, in words, with the number of looks.
 fn told_in(alloc: Global, table: Option<Table>, moniker: &Moniker) -> Option<Text> {
     match table {
         Some(table) => told_of(alloc, table, moniker),
@@ -99,7 +102,7 @@ fn resolves_all(alloc: Global, table: &mut Table, lines: &str) -> bool {
     true
 }
 
-/// Resolves the instance of a line by the manifest behind its number.
+/// Resolves the instance of a line by the manifest after its number.
 fn resolve(alloc: Global, table: &mut Table, line: &str) -> Option<()> {
     let (inc, manifest) = line.split_once(' ')?;
     let inc = inc.parse().ok()?;
@@ -120,7 +123,7 @@ fn settle(table: &mut Table, inc: u64, prepared: Prepared) -> Option<()> {
     None
 }
 
-/// Whether an instance lives.
+/// Whether the table has an instance with this incarnation.
 pub fn lives(table: &Table, inc: u64) -> bool
     ensures lives { result ≡ is_live table.now.rows inc }
     ensures orderly { IsOrderly table.now.rows table.now.next_inc }
@@ -144,7 +147,7 @@ fn told_of(alloc: Global, table: Table, moniker: &Moniker) -> Option<Text> {
     line_of(alloc, led, looks).ok()
 }
 
-/// Where the moniker leads.
+/// Where the moniker leads, by looks that are counted.
 fn led_to<L: Ledger>(counted: &Counted, moniker: &Moniker, blank: Blank) -> Located
     requires name { blank.name ≡ L.name }
     requires parts { blank.parts ≡ L.parts }

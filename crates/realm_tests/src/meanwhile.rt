@@ -98,7 +98,7 @@ pub fn doom_while_starting(
     }
 }
 
-/// Marks an instance for caller 1, and ends the start that caller 0 has begun behind a pick that isn't
+/// Marks an instance for caller 1, and ends the start that caller 0 has begun after a pick that isn't
 /// made.
 fn doom(realm: &mut Realm, alloc: Global, inc: u64, begun: u64) -> Option<NoStep>
     requires { MayEnd (world_of realm.old).acts 0 begun (finish.Other outcome.Started) }
@@ -125,7 +125,7 @@ fn marked(realm: &mut Realm, inc: u64) -> Result<(), Option<NoStep>>
     }
 }
 
-/// Ends the start that caller 0 has begun, behind a pick of caller 1 that isn't made.
+/// Ends the start that caller 0 has begun, after a pick of caller 1 that isn't made.
 fn end_behind_pick(realm: &mut Realm, alloc: Global, inc: u64, begun: u64) -> Option<NoStep>
     requires may { MayEnd (world_of realm.old).acts 0 begun (finish.Other outcome.Started) }
     requires closes { IsTrue (may_close (world_of realm.old).rows inc) }

@@ -1,5 +1,5 @@
 //! What is picked in a shutdown: by the order alone, which is asked by its name, and by the realm's own
-//! step behind it.
+//! step after it.
 
 ghost use Rattle.std.specs.Prelude.{IsTrue, IfSome};
 ghost use Rattle.cm_world.specs.Step.{may_close};
@@ -16,7 +16,7 @@ use cm_world::Reply;
 use std::alloc::Global;
 
 /// What is picked in a case: first come the realm's limits and what the case shows, then steps, of which
-/// nothing is told. Behind a line `--` each line is a target, which is marked to be shut down.
+/// nothing is told. After a line `--` each line is a target, which is marked to be shut down.
 pub fn told(alloc: Global, case: &str) -> Option<Text> {
     let (prefix, targets) = case.split_once("\n--\n")?;
     let (head, steps) = prefix.split_once('\n')?;
@@ -30,6 +30,7 @@ pub fn told(alloc: Global, case: &str) -> Option<Text> {
     }
 }
 
+/// What the picks for these targets come to after the steps, a line for each.
 fn told_in(alloc: Global, realm: &mut Realm, steps: &str, targets: &str) -> Option<Text> {
     take_all(realm, alloc, steps, &mut Text::new(alloc))?;
     let mut told = Text::new(alloc);
@@ -86,7 +87,7 @@ fn picked(realm: &Realm, alloc: Global, inc: u64) -> Option<Picked>
     pick(alloc, tree, inc).ok()
 }
 
-/// Puts down what was picked.
+/// Adds a line with what was picked to what is told.
 fn tell(told: &mut Text, picked: Picked) -> Result<(), Memory> {
     match picked {
         Picked::StopNow(inc) => told.push(format_args!("stop {inc}\n")),

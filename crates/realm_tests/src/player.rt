@@ -2,7 +2,7 @@
 //! into it, so that one more case costs no proof.
 //!
 //! A case begins with `== `, the word of what is played and a space. Then comes what is played, and
-//! behind a line `=>` what has to be told of it, line by line.
+//! after a line `=>` what has to be told of it, line by line.
 
 use crate::cases::{CALLERS, EXPIRIES, GRAPHS, KEPT, LIMITS, LOCATED, PICKS, SHUTDOWNS, WALKS};
 use crate::{graphs, locating, picks, realms, walks};
@@ -57,6 +57,7 @@ fn told_of(alloc: Global, case: &str) -> Option<Text> {
     }
 }
 
+/// The table of this number; empty above the last.
 fn table_of(number: u8) -> &'static str {
     match number {
         0 => LIMITS,
@@ -72,6 +73,7 @@ fn table_of(number: u8) -> &'static str {
     }
 }
 
+/// Each case of all tables is told as it says.
 #[test]
 fn cases_tell_what_they_should(rt: HostRuntime) -> Result<(), Fail> {
     for number in 0..9 {
@@ -81,7 +83,7 @@ fn cases_tell_what_they_should(rt: HostRuntime) -> Result<(), Fail> {
     Ok(())
 }
 
-/// A table in which the second case is wrong, and those behind it can't be read.
+/// A table in which the second case is wrong, and those after it can't be read.
 const WRONG: &str = "\
     == realm 9 99 shows the root\n\
     4 show 0\n\
@@ -122,6 +124,7 @@ fn is_told(alloc: Global, table: &str, wanted: &str) -> bool {
     }
 }
 
+/// The player finds a case that is told otherwise, and one that can't be read.
 #[test]
 fn finds_wrong_cases(rt: HostRuntime) {
     assert!(rt; is_told(rt.alloc(), WRONG, ODD));

@@ -27,6 +27,7 @@ pub fn told(alloc: Global, case: &str) -> Option<Text> {
     }
 }
 
+/// What the steps come to, in words; what comes before a line `--` is only taken.
 fn told_in(alloc: Global, realm: &mut Realm, steps: &str) -> Option<Text> {
     match steps.split_once("\n--\n") {
         Some((before, steps)) => {
@@ -37,6 +38,7 @@ fn told_in(alloc: Global, realm: &mut Realm, steps: &str) -> Option<Text> {
     }
 }
 
+/// What all steps come to, a line for each.
 fn told_of(alloc: Global, realm: &mut Realm, steps: &str) -> Option<Text> {
     let mut told = Text::new(alloc);
     take_all(realm, alloc, steps, &mut told)?;
@@ -54,13 +56,13 @@ fn run_once(realm: &Realm) -> [bool; 4] {
     ]
 }
 
-/// That, behind these steps.
+/// Which of the first four incarnations run once, after these steps.
 fn run_once_behind(alloc: Global, realm: &mut Realm, steps: &str) -> Option<[bool; 4]> {
     told_of(alloc, realm, steps)?;
     Some(run_once(realm))
 }
 
-/// That, in a new realm.
+/// Which of the first four incarnations run once, after these steps in a new realm.
 fn run_once_in_new(alloc: Global, steps: &str) -> Option<[bool; 4]> {
     match realm_of(alloc, 9, 99) {
         Some(mut realm) => {
@@ -72,6 +74,7 @@ fn run_once_in_new(alloc: Global, steps: &str) -> Option<[bool; 4]> {
     }
 }
 
+/// A realm tells of each child whether it runs once.
 #[test]
 fn tells_what_runs_once(rt: HostRuntime) {
     assert!(rt; run_once_in_new(rt.alloc(), ONCE) == Some([false, true, false, false]));

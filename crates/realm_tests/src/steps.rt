@@ -124,6 +124,7 @@ fn find(realm: &mut Realm, alloc: Global, caller: u32, word: &str) -> Option<Opt
     Some(realm.find(alloc, caller, moniker).err())
 }
 
+/// Takes the step `show`; the value says why none was made.
 fn show(realm: &mut Realm, alloc: Global, caller: u32, inc: u64) -> Option<NoStep> {
     realm.show(alloc, caller, inc).err()
 }
@@ -187,7 +188,7 @@ fn reap(realm: &mut Realm, alloc: Global, caller: u32, inc: u64) -> Option<NoSte
     realm.reap(alloc, caller, inc).err()
 }
 
-/// Begins an action.
+/// Takes the step `begin`; the value says why none was made.
 fn begin(
     realm: &mut Realm,
     alloc: Global,
@@ -199,6 +200,7 @@ fn begin(
     Some(realm.begin(alloc, caller, kind, inc).err())
 }
 
+/// The kind of action of this word.
 fn kind_of(word: &str) -> Option<ActKind> {
     match word {
         "resolve" => Some(ActKind::Resolve),
@@ -208,6 +210,7 @@ fn kind_of(word: &str) -> Option<ActKind> {
     }
 }
 
+/// Takes the step `exited`; the value says why none was made.
 fn exited(realm: &mut Realm, alloc: Global, caller: u32, inc: u64) -> Option<NoStep> {
     realm.exited(alloc, caller, inc).err()
 }
@@ -227,7 +230,7 @@ fn tell_refusal(told: &mut Text, refused: Option<NoStep>) -> Result<(), Memory> 
     }
 }
 
-/// Puts down the lines of the entries behind the first ones.
+/// Puts down the lines of the entries after the first ones.
 pub fn tell_lines(
     told: &mut Text,
     alloc: Global,

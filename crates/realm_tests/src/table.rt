@@ -48,6 +48,7 @@ fn destroy(table: &mut Table) {
     table.set_shut(0);
 }
 
+/// Removes the root and all below it.
 fn remove(table: &mut Table) {
     table.remove_below(0);
 }
@@ -81,6 +82,7 @@ fn is_alone(table: &Table) -> bool {
     table.url(0).is_some_and(|url| url.as_str() == "r") && table.next_child(0, None).is_none()
 }
 
+/// Whether the table finds the builtin; `None` where memory runs out.
 fn has_builtin(alloc: Global, table: &Table) -> Option<bool> {
     let name = name_of(alloc, "b")?;
     Some(table.builtin(Kind::Protocol, &name).is_some())
@@ -113,7 +115,7 @@ fn changes_rows(alloc: Global, table: &mut Table) -> [bool; 7] {
     ]
 }
 
-/// That, of a fresh table.
+/// Whether each of seven changes of a new table's rows did what it should.
 fn changes_fresh_rows(alloc: Global) -> [bool; 7] {
     match fresh(alloc) {
         Some(mut table) => {
@@ -125,6 +127,7 @@ fn changes_fresh_rows(alloc: Global) -> [bool; 7] {
     }
 }
 
+/// A new table's rows change as they are told to.
 #[test]
 fn rows_change(rt: HostRuntime) {
     let told = changes_fresh_rows(rt.alloc());

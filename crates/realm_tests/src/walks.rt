@@ -34,7 +34,7 @@ pub fn told_of_offer(alloc: Global, input: &str) -> Option<Text> {
     told_in(alloc, declared(alloc, manifest), Start::OfferAt(0, index))
 }
 
-/// A tree without instances.
+/// A table without any instance; the root was removed, too.
 fn bare(alloc: Global) -> Option<Table> {
     match fresh(alloc) {
         Some(mut table) => {
@@ -53,6 +53,7 @@ fn declared(alloc: Global, manifest: &str) -> Option<Table> {
     }
 }
 
+/// A new table whose root is resolved to this declaration; `None` where memory runs out.
 fn settled(alloc: Global, prepared: Prepared) -> Option<Table> {
     match fresh(alloc) {
         Some(mut table) => {
@@ -66,6 +67,7 @@ fn settled(alloc: Global, prepared: Prepared) -> Option<Table> {
     }
 }
 
+/// What a walk in this table comes to, in words.
 fn told_in(alloc: Global, table: Option<Table>, start: Start) -> Option<Text> {
     match table {
         Some(table) => {
@@ -88,6 +90,7 @@ fn reached(alloc: Global, table: &Table, start: Start) -> Option<Reply> {
     }
 }
 
+/// The reply that is told for what a walk came to.
 fn reply_of(walked: Walked) -> Reply {
     match walked {
         Walked::Given(route) => Reply::Given(route),
@@ -98,7 +101,7 @@ fn reply_of(walked: Walked) -> Reply {
     }
 }
 
-/// A reply as a history has it, with a line feed behind it.
+/// A reply as a history has it, with a line feed after it.
 fn told_by(alloc: Global, reply: Option<Reply>) -> Option<Text> {
     match reply {
         Some(reply) => {
@@ -122,7 +125,7 @@ fn told_at(alloc: Global, entry: &Entry) -> Option<Text> {
     ended(alloc, reply)
 }
 
-/// A text with a line feed behind it.
+/// A text with a line feed after it.
 fn ended(alloc: Global, text: &str) -> Option<Text> {
     let mut line = Text::new(alloc);
     line.push(format_args!("{text}\n")).ok()?;

@@ -20,7 +20,7 @@ pub fn path_of(alloc: Global, word: &str) -> Option<CapPath> {
     CapPath::read(alloc, word).ok()
 }
 
-/// The line of an entry, behind its number.
+/// The line of an entry, after its number.
 pub fn line_of(alloc: Global, number: u64, entry: &Entry) -> Result<Text, Memory> {
     entry_text(alloc, number, entry)
 }

@@ -2,11 +2,11 @@
 //!
 //! A case begins with `== `, how many entries the history takes, how many bytes one read or write of
 //! the link moves at most, its read and its write that fail, or `-` for none, and `both` where the
-//! manifests of the root and of its child `x` are there. Then comes what the link gives, and behind a
+//! manifests of the root and of its child `x` are there. Then comes what the link gives, and after a
 //! line feed and `=> ` the end, on a line of its own, with what was written. Another line feed may stand
-//! behind that.
+//! after that.
 
-/// Lines by one byte, ends by `quit`, at the last byte and by a fault. Nothing behind `quit` is served,
+/// Lines by one byte, ends by `quit`, at the last byte and by a fault. Nothing after `quit` is served,
 /// and the last line needs no line feed. What is nearly `quit`, an empty line and a comment are no
 /// commands. The lines of a session are one caller's, in order.
 pub const ENDS: &str = "\
@@ -95,7 +95,7 @@ pub const LIMITS: &str = "\
     23 stopped full full\n\
     24 stopped gone full\n";
 
-/// The case of a stop, behind the number of entries and up to what its last three lines are answered.
+/// The case of a stop, after the number of entries and up to what its last three lines are answered.
 pub const STOP: &str = "\
     65536 - - both\n\
     start .\n\

@@ -40,6 +40,8 @@ impl Source for LockStep {
 
     ghost beside = { λ _. record { written = None; faults = 0 } };
 
+    /// Gives the next byte of the client's lines. It fails where a line's reply is still owed, so reads
+    /// and replies must alternate.
     fn read<R: Threads + Wait + Sync>(&mut self, _rt: &R, into: &mut [u8]) -> Got {
         if self.replies < self.lines {
             self.read_faults = self.read_faults.saturating_add(1);
@@ -70,6 +72,7 @@ impl Sink for LockStep {
 
     ghost beside = { λ l. record { left = None; given = None; faults = l.read_faults } };
 
+    /// Takes one byte, and counts the replies by their line feeds.
     fn write<R: Threads + Wait + Sync>(&mut self, _rt: &R, bytes: &[u8]) -> Took {
         if bytes[0] == LINE_END {
             self.replies = self.replies.saturating_add(1);
@@ -87,11 +90,13 @@ impl Link for LockStep {
 
     ghost one_order = { λ _. refl };
 
+    /// Counts that it was hung up on.
     fn hang_up<R: Threads + Wait + Sync>(&mut self, _rt: &R) {
         self.hung_up = self.hung_up.saturating_add(1);
     }
 }
 
+/// A client that sends a line only after the last one's reply is served whole.
 #[test]
 fn client_in_lock_step(rt: HostRuntime) {
     let mut link = LockStep {

@@ -38,12 +38,12 @@ const ENDS: [[&str; 2]; 2] = [
     ["resolved logger action 3\n", "resolved client action 2\n"],
 ];
 
-/// The bytes of a text.
+/// The text as a list of bytes; `None` where memory runs out.
 fn bytes_of(alloc: Global, text: &str) -> Option<Bytes> {
     Some(Bytes::from_vec(text.as_bytes().to_vec(alloc).ok()?))
 }
 
-/// An empty manifest.
+/// A manifest that declares nothing, under this URL.
 fn manifest(alloc: Global, url: &str) -> Option<Manifest> {
     let bytes = bytes_of(alloc, "{}")?;
     match Text::from_str(alloc, url) {
@@ -101,7 +101,7 @@ fn link(alloc: Global, line: &str) -> Option<LinkPlan> {
     })
 }
 
-/// A door with the links.
+/// A door in memory with the links of the clients.
 fn door(alloc: Global) -> Option<MemoryDoor> {
     let mut waiting = VecDeque::new(alloc);
     for line in &LINES {
@@ -201,7 +201,7 @@ fn have_met(served: &Served<MemoryDoor, MemoryLink, MeetingGates>) -> bool {
     told && met && served.cause == Cause::Done
 }
 
-/// That, over a new realm.
+/// Whether two workers whose fetches wait for each other both come to an end, over a new realm.
 fn meet_over<R: Threads + Wait + Sync>(
     rt: &R,
     alloc: Global,
@@ -228,6 +228,7 @@ fn meet_over<R: Threads + Wait + Sync>(
     }
 }
 
+/// Whether two workers whose fetches wait for each other both come to an end.
 fn meet<R: Threads + Wait + Sync>(rt: &R, alloc: Global) -> bool {
     match repository(alloc) {
         Some(repository) => match open_door(rt, alloc) {
@@ -241,6 +242,7 @@ fn meet<R: Threads + Wait + Sync>(rt: &R, alloc: Global) -> bool {
     }
 }
 
+/// Two workers whose fetches wait for each other both go on: a session holds no other up.
 #[test]
 fn workers_meet(rt: HostRuntime) {
     assert!(rt; meet(&rt, rt.alloc()));

@@ -44,6 +44,7 @@ fn word_of(head: &str, place: usize) -> &str {
     head.split(' ').nth(place).unwrap_or("")
 }
 
+/// The source of a case, by the words of its head; `None` where they can't be read.
 fn source_of(alloc: Global, head: &str, input: &str) -> Option<MemorySource> {
     let plan = plan_of(alloc, word_of(head, 1), word_of(head, 2))?;
     match input.as_bytes().to_vec(alloc) {
@@ -52,7 +53,7 @@ fn source_of(alloc: Global, head: &str, input: &str) -> Option<MemorySource> {
     }
 }
 
-/// The link of a case.
+/// The link of a case, by the words of its head; `None` where they can't be read.
 fn link_of(alloc: Global, head: &str, input: &str) -> Option<MemoryLink> {
     let plan = plan_of(alloc, word_of(head, 1), word_of(head, 3))?;
     match source_of(alloc, head, input) {
@@ -95,7 +96,7 @@ fn add_both(alloc: Global, manifests: &mut Repository) -> Option<()> {
     )
 }
 
-/// The manifests of a case.
+/// The manifests of a case, by the words of its head.
 fn manifests_of(alloc: Global, head: &str) -> Option<Repository> {
     let mut manifests = Repository::new(alloc);
     if word_of(head, 4) == "both" {
@@ -197,7 +198,7 @@ fn told_of(alloc: Global, ended: Ended, written: &[u8]) -> Option<Text> {
     Some(told)
 }
 
-/// What a case tells.
+/// What a case comes to, as its table tells it.
 fn told_by<R: Threads + Wait + Sync>(
     rt: &R,
     alloc: Global,
@@ -214,6 +215,7 @@ fn told_by<R: Threads + Wait + Sync>(
     }
 }
 
+/// What a case whose session has this link comes to, as its table tells it.
 fn told_over<R: Threads + Wait + Sync>(
     rt: &R,
     alloc: Global,
@@ -256,6 +258,7 @@ fn odd_cases<R: Threads + Wait + Sync>(rt: &R, alloc: Global, table: &str) -> Op
     Some(odd)
 }
 
+/// Each case of the table comes to what it says.
 #[test]
 fn sessions_end(rt: HostRuntime) {
     let odd = odd_cases(&rt, rt.alloc(), ENDS);
@@ -303,6 +306,8 @@ fn odd_stops<R: Threads + Wait + Sync>(rt: &R, alloc: Global) -> Option<Text> {
     Some(odd)
 }
 
+/// Where the history has no room for it, the removal of what goes with a stopped instance is cut, as
+/// the rows say.
 #[test]
 fn full_histories_cut_removals(rt: HostRuntime) {
     let odd = odd_stops(&rt, rt.alloc());
@@ -312,6 +317,7 @@ fn full_histories_cut_removals(rt: HostRuntime) {
 /// A table whose only case tells something else.
 const WRONG: &str = "== 9 1 - - none\n\n=> Quit\n";
 
+/// The player finds a case that comes to something else, and one that can't be read.
 #[test]
 fn finds_wrong_cases(rt: HostRuntime) {
     let odd = odd_cases(&rt, rt.alloc(), WRONG);

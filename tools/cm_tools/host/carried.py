@@ -5,12 +5,11 @@ from __future__ import annotations
 import socket
 from typing import Callable
 
-from cm_tools.host.watching import Watch, unsent, watch
+from cm_tools.host.watching import Selector, Watch, unsent
 
 # One buffer for all connections: a piece is handed on before the next one is read.
 BUFFER = memoryview(bytearray(1 << 16))
-# A socket, and the watch of it.
-End = tuple[socket.socket, Watch]
+NOW = socket.MSG_DONTWAIT
 
 
 class Way:
@@ -21,9 +20,9 @@ class Way:
 
     __slots__ = ("carried", "source", "sink", "came", "goes", "behind", "is_over")
 
-    def __init__(self, carried: Carried, source: End, sink: End, first: bytes = b"") -> None:
-        self.carried = carried
-        (self.source, self.came), (self.sink, self.goes) = source, sink
+    def __init__(self, carried: Carried, source: socket.socket, sink: socket.socket, came: Watch,
+                 goes: Watch, first: bytes) -> None:
+        self.carried, self.source, self.sink, self.came, self.goes = carried, source, sink, came, goes
         self.behind, self.is_over = first, False
 
     def wait(self) -> None:
@@ -38,17 +37,17 @@ class Way:
     def read(self) -> None:
         """Hands on what has come."""
         try:
-            count = self.source.recv_into(BUFFER)
+            count = self.source.recv_into(BUFFER, 0, NOW)
+            if not count:
+                self.over()
+                return
         except BlockingIOError:
             return
         except OSError as fault:
             self.carried.end(fault)
             return
-        if not count:
-            self.over()
-            return
         try:
-            sent = self.sink.send(BUFFER[:count])
+            sent = self.sink.send(BUFFER[:count], NOW)
         except BlockingIOError:
             sent = 0
         except OSError as fault:
@@ -69,40 +68,41 @@ class Way:
             self.wait()
 
     def over(self) -> None:
-        """The source has said all; the sink is told."""
-        self.is_over = True
-        self.came.on_read(None)
-        try:
-            self.sink.shutdown(socket.SHUT_WR)
-        except OSError as fault:
-            self.carried.end(fault)
+        """The source has said all; the sink is told. One that is closed takes nothing more either."""
+        if self.came.hung:
+            self.carried.end(None)
             return
+        self.is_over = True
+        self.came.on_hang(self.carried.cancel)
+        self.sink.shutdown(socket.SHUT_WR)
         self.carried.look()
 
 
 class Carried:
-    """Both ways, from when it begins until both ends have said all, one broke off, or it is cancelled. Then
-    `then` is called at once, with the OSError where there was one."""
+    """Both ways, from when it begins until both ends have said all, one is closed or broke off, or it is
+    cancelled. Then both are closed, and `then` is called at once, with the OSError where there was one."""
 
-    def __init__(self, one: socket.socket, other: socket.socket, then: Callable[[OSError | None], None],
-                 first: bytes = b"") -> None:
-        ends = (one, watch(one)), (other, watch(other))
-        self.watches = ends[0][1], ends[1][1]
+    __slots__ = ("ends", "watches", "ways", "then")
+
+    def __init__(self, watcher: Selector, one: socket.socket, other: socket.socket,
+                 then: Callable[[Carried, OSError | None], None], first: bytes = b"") -> None:
+        self.ends, self.then = (one, other), then
+        came, goes = self.watches = Watch(watcher, one.fileno()), Watch(watcher, other.fileno())
         # What was read of the one before goes first.
-        self.ways = Way(self, *ends, first), Way(self, ends[1], ends[0])
-        self.then, self.is_over = then, False
+        self.ways = Way(self, one, other, came, goes, first), Way(self, other, one, goes, came, b"")
 
     def begin(self) -> None:
         """Hands on from now on."""
+        there, back = self.ways
         try:
-            for way in self.ways:
-                way.wait()
+            there.wait()
+            back.wait()
         except OSError as fault:
             self.end(fault)
             return
-        if not self.ways[0].behind:
+        if not there.behind:
             # What a client said while it was decided is there already.
-            self.ways[0].read()
+            there.read()
 
     def look(self) -> None:
         """Ends where both ways have ended."""
@@ -115,9 +115,12 @@ class Carried:
 
     def end(self, fault: OSError | None) -> None:
         """Ends it, with the fault where one end broke off."""
-        if self.is_over:
+        if not self.ways:
             return
-        self.is_over = True
+        # Its ways know it: without them nothing is left for a search of circles.
+        self.ways = ()
         for one in self.watches:
-            one.end()
-        self.then(fault)
+            one.drop()
+        for end in self.ends:
+            end.close()
+        self.then(self, fault)

@@ -76,7 +76,10 @@ class Consoles:
         if not target[1:].isdigit():
             return None
         if int(target[1:]) not in manager.monikers:
-            manager.learn(await manager.asked.consoles.ask("survey ."))
+            # A line, and not a row for each instance: the history keeps it.
+            told = (await manager.asked.consoles.ask(f"show {target}"))[0].split(" ")
+            if told[0] == "shown":
+                manager.monikers[int(target[1:])] = told[1]
         return manager.monikers.get(int(target[1:]))
 
     async def tree_command(self, manager: Manager, pool: Pool | Session, target: str,

@@ -11,7 +11,8 @@ import time
 from pathlib import Path
 from typing import TYPE_CHECKING, Callable
 
-from cm_tools.host import sandbox, watching
+from cm_tools.host import watching
+from cm_tools.host.beneath import Listens, beneath
 from cm_tools.host.carried import Carried
 from cm_tools.host.instance import Instance
 from cm_tools.host.programs import Unfit
@@ -33,6 +34,7 @@ CONNECTIONS, AT_ONCE, A_SECOND = 32, 2000, 20
 # a provider to listen; in seconds.
 PATIENCE, TO_LISTEN = 5.0, 20.0
 LONGEST_LINE, PIECE = 8192, 1 << 16
+CONNECTS = socket.SOCK_STREAM | socket.SOCK_NONBLOCK
 READING = {"connect", "enumerate", "traverse", "read_bytes", "get_attributes"}
 WRITING = {"connect", "enumerate", "traverse", "write_bytes", "modify_directory", "update_attributes"}
 WRITES = {"write_bytes", "modify_directory", "update_attributes"}
@@ -43,7 +45,7 @@ class Door:
 
     def __init__(self, doors: Doors, it: Instance, path: str, link: socket.socket) -> None:
         self.doors, self.it, self.path, self.link = doors, it, path, link
-        self.loop, self.watch = asyncio.get_running_loop(), watching.watch(link)
+        self.loop, self.watch = asyncio.get_running_loop(), watching.Watch(doors.watcher, link.fileno())
         self.room, self.since = float(AT_ONCE), time.monotonic()
         self.taken = 0
         self.pause: asyncio.TimerHandle | None = None
@@ -79,7 +81,7 @@ class Door:
         self._watch()
 
     def _take(self) -> None:
-        """Takes a connection."""
+        """Takes a connection. It is read and written without waiting, so it needn't be set so."""
         try:
             client, _ = self.link.accept()
         except BlockingIOError:
@@ -87,7 +89,6 @@ class Door:
         except OSError:
             self._wait(0.1)  # for want of descriptors
             return
-        client.setblocking(False)
         self.taken += 1
         now = time.monotonic()
         self.room, self.since = min(AT_ONCE, self.room + A_SECOND * (now - self.since)) - 1, now
@@ -140,12 +141,9 @@ class Opening:
         provider = provider_of(manager, reply)
         if provider is None or not provider[0].process:
             return False
-        far = socket.socket(socket.AF_UNIX, socket.SOCK_STREAM)
-        far.setblocking(False)
         try:
-            _connect_beneath(far, *provider)
+            far = connected_beneath(*provider)
         except OSError:
-            far.close()
             return False
         self.doors.carry(self.it, self.door.path, (self.client, far), provider[0], manager, self._ended)
         return True
@@ -164,7 +162,7 @@ class Doors:
     """Listens for what the programs connect to, asks, connects, and carries bytes."""
 
     def __init__(self, runner: Runner) -> None:
-        self.runner = runner
+        self.runner, self.watcher = runner, watching.watcher()
         self.numbers = 0
 
     # Sockets.
@@ -268,17 +266,15 @@ class Doors:
             then(None)
             return
 
-        def ended(fault: OSError | None) -> None:
-            for end in ends:
-                end.close()
+        def ended(carried: Carried, fault: OSError | None) -> None:
             it.tasks.discard(carried)
             provider.tasks.discard(carried)
             it.open.pop(number, None)
-            self.runner.log.note("closed", moniker=it.moniker, connection=number)
+            self.runner.log.later("closed", moniker=it.moniker, connection=number)
             then(fault)
 
         it.open[number] = path, provider.moniker
-        carried = Carried(*ends, ended, first)
+        carried = Carried(self.watcher, *ends, ended, first)
         # It ends with the one and with the other.
         it.tasks.add(carried)
         provider.tasks.add(carried)
@@ -317,23 +313,17 @@ class Doors:
         """A connection to what a provider has at a path. Right behind its start it may not listen yet."""
         until, wait = time.monotonic() + TO_LISTEN, 0.001
         while provider.process and time.monotonic() < until:
-            far = socket.socket(socket.AF_UNIX, socket.SOCK_STREAM)
-            far.setblocking(False)
             try:
-                _connect_beneath(far, provider, path)
-                return far
+                return connected_beneath(provider, path)
             except (FileNotFoundError, ConnectionRefusedError, BlockingIOError):
-                far.close()
                 await asyncio.sleep(wait)
                 wait = min(2 * wait, 0.05)
-            except OSError:
-                far.close()
-                raise
         raise ConnectionRefusedError(f"nobody listens at {path} of {provider.moniker}")
 
     async def _realm(self, it: Instance, client: socket.socket) -> None:
         """Lines of a program to its own realm, until it opens something."""
         loop, realm, rest = asyncio.get_running_loop(), Realm(self.runner, it), b""
+        client.setblocking(False)
         while len(rest) < LONGEST_LINE and (piece := await loop.sock_recv(client, 4096)):
             rest += piece
             while b"\n" in rest:
@@ -361,7 +351,7 @@ class Doors:
                         "whole, or read and written as a whole")
         provider = self.runner.gate.instance(manager, int(found[3]), found[2])
         try:
-            descriptor = sandbox.beneath(provider.out, found[1], make=True)
+            descriptor = beneath(provider.out, found[1], make=True)
         except OSError as fault:
             self.runner.log.event("refused", moniker=it.moniker, path=path, manager=manager.number,
                                   why=f"{found[1]} of {found[2]}: {fault.strerror}")
@@ -369,20 +359,20 @@ class Doors:
         bound = Bound(descriptor, path, may_write)
         if not may_write and not self.runner.settings.plain:
             try:
-                bound.layer = self._layer(it, descriptor, path)
+                bound.layer = await self._layer(it, descriptor, path)
             except (OSError, Unfit):
                 os.close(descriptor)
                 raise
         return bound
 
-    def _layer(self, it: Instance, descriptor: int, path: str) -> str:
+    async def _layer(self, it: Instance, descriptor: int, path: str) -> str:
         """Lays a read-only directory for an instance. Where it is laid."""
         if not self.runner.lays_layers:
             raise Unfit(f"the read-only directory at {path} needs a layer, which this system doesn't lay; "
                         "--plain-directories binds it without one")
         self.numbers += 1
         place = str(self.runner.places.layers / str(self.numbers))
-        self.runner.layers.lay(descriptor, place)
+        await self.runner.layers.lay(descriptor, place)
         it.layers.append(place)
         return place
 
@@ -417,15 +407,21 @@ def can_be_kept(rights: set[str]) -> bool:
     return told in (READING, READING | WRITING)
 
 
-def _connect_beneath(far: socket.socket, provider: Instance, path: str) -> None:
-    """Connects to a provider's socket, without following a link."""
-    place = sandbox.beneath(provider.out, path, last=0)
+def connected_beneath(provider: Instance, path: str) -> socket.socket:
+    """A connection to a provider's socket, for which no link is followed."""
+    place = provider.listens.get(path)
+    if place is None or not place.stands():
+        if place is not None:
+            provider.listens.pop(path).close()
+        place = provider.listens[path] = Listens(provider.out, path)
+    far = socket.socket(socket.AF_UNIX, CONNECTS)
     try:
-        if not sandbox.is_socket(place):
-            raise PermissionError(1, f"{path} of {provider.moniker} is no socket")
-        far.connect(f"/proc/self/fd/{place}")
-    finally:
-        os.close(place)
+        far.connect(place.name)
+        return far
+    except BaseException:
+        far.close()
+        provider.listens.pop(path).close()
+        raise
 
 
 async def _between(reader: asyncio.StreamReader, writer: asyncio.StreamWriter,

@@ -7,6 +7,7 @@ what is registered from the parent of an instance further below is what that ins
 from __future__ import annotations
 
 import asyncio
+import os
 import re
 from typing import Iterator, NamedTuple
 
@@ -112,7 +113,7 @@ class Environments:
     def _state(self, moniker: str) -> tuple[str, int, int]:
         url = self.tree.url_of(moniker)
         try:
-            state = programs.place_of(self.repo, url)[1].stat()
+            state = os.stat(programs.place_of(self.repo, url)[1])
             return url, state.st_mtime_ns, state.st_size
         except (OSError, Unfit):
             return url, 0, 0

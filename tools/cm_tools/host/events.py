@@ -2,17 +2,24 @@
 
 from __future__ import annotations
 
+import contextlib
 import hashlib
 import json
 import os
 import sys
 import time
+from json.encoder import encode_basestring_ascii as quoted
 from pathlib import Path
-from typing import Any, Callable, TextIO
+from typing import Any, Callable, Iterable, TextIO
 
 # A file of events that has grown so far is put aside, and so many of these are kept.
 LARGEST_LOG = 32 << 20
 KEPT_LOGS = 4
+# Of what instances printed that have gone so many bytes are kept, in so many files. It is looked for more
+# behind so many that have gone.
+MOST_SAID, MOST_FILES, LOOK = 256 << 20, 1000, 16
+# How long an event may wait for the next one, in seconds.
+A_MOMENT = 0.1
 EVENTS = "events.jsonl"
 PLAIN = ("at", "event", "moniker", "manager")
 ENCODER = json.JSONEncoder(separators=(",", ":"))
@@ -51,7 +58,10 @@ class Log:
         folder.mkdir(mode=0o700, parents=True, exist_ok=True)
         self.folder, self.screen, self.quiet = folder, screen, quiet
         self.snapshot: Callable[[], list[dict[str, Any]]] = list
-        self.is_full = False
+        self.is_full, self.count_gone = False, 0
+        # Events that are written with the next one; and what has that done where none comes.
+        self.behind: list[dict[str, Any]] = []
+        self.call_later: Callable[[float, Callable[[], None]], object] = lambda _, flush: flush()
         self.rooms = {word: Room(50) for word in ("opened", "refused", "broken")}
         self._open()
 
@@ -69,6 +79,26 @@ class Log:
         """Writes an event, and doesn't show it."""
         return self._write({"at": round(time.time(), 6), "event": word, **fields})
 
+    def later(self, word: str, **fields: Any) -> None:
+        """Writes an event that nobody waits for, together with the next one, or a moment later."""
+        self.behind.append({"at": round(time.time(), 6), "event": word, **fields})
+        if len(self.behind) == 1:
+            self.call_later(A_MOMENT, self.flush)
+
+    def gone(self, known: Iterable[str]) -> None:
+        """An instance has gone for good. Now and then the oldest of what such instances printed goes, too;
+        what those printed that are known by these monikers stays."""
+        self.count_gone += 1
+        if self.count_gone % LOOK == 0:
+            for place in surplus(self.folder, {place_of(self.folder, one) for one in known}):
+                with contextlib.suppress(OSError):
+                    place.unlink()
+
+    def flush(self) -> None:
+        """Writes the events that wait."""
+        if self.behind:
+            self._write()
+
     def show(self, text: str) -> None:
         """Shows a line to the person who looks on, if any still does."""
         if self.quiet:
@@ -84,8 +114,10 @@ class Log:
         self.file = os.open(self.folder / EVENTS, how, 0o600)
         self.size = os.fstat(self.file).st_size
 
-    def _write(self, line: dict[str, Any]) -> bool:
-        data = ENCODER.encode(line).encode() + b"\n"
+    def _write(self, *lines: dict[str, Any]) -> bool:
+        """Writes events, behind those that wait. False where they can't be written."""
+        data = "".join([written(line) for line in (*self.behind, *lines)]).encode()
+        self.behind.clear()
         try:
             if self.size > LARGEST_LOG:
                 self._turn()
@@ -114,6 +146,37 @@ class Log:
         self._open()
         for line in self.snapshot():
             self._write({"at": round(time.time(), 6), **line})
+
+
+def written(line: dict[str, Any]) -> str:
+    """A line of the log. Each opening is one, so this is done without what a coder for all values does."""
+    parts = []
+    for key, value in line.items():
+        kind = type(value)
+        if kind is str:
+            value = quoted(value)
+        elif kind is not int and kind is not float:
+            value = ENCODER.encode(value)
+        parts.append(f'"{key}":{value}')
+    return "{" + ",".join(parts) + "}\n"
+
+
+def surplus(folder: Path, kept: set[Path]) -> list[Path]:
+    """The oldest files of what was printed, as far as all have too many bytes together, or are too many. None
+    is among those that are kept, and the two halves of one are two files."""
+    found = []
+    for entry in os.scandir(folder):
+        place = folder / entry.name
+        if entry.name.startswith("said-") and place.with_suffix(".log") not in kept:
+            with contextlib.suppress(OSError):
+                found.append((entry.stat().st_mtime_ns, entry.stat().st_size, place))
+    found.sort(reverse=True)
+    left, size = [], 0
+    for count, (_, more, place) in enumerate(found):
+        size += more
+        if size > MOST_SAID or count >= MOST_FILES:
+            left.append(place)
+    return left
 
 
 def told(line: dict[str, Any]) -> str:

@@ -3,26 +3,26 @@
 from __future__ import annotations
 
 import asyncio
+import functools
 import os
-import stat
-import subprocess
 import time
 from pathlib import Path
 from typing import TYPE_CHECKING
 
 from cm_tools.host import programs, sandbox, seccomp
-from cm_tools.host.instance import Instance
+from cm_tools.host.events import Said
+from cm_tools.host.instance import Instance, Output
+from cm_tools.host.leftovers import removed_sockets
 from cm_tools.host.programs import Program, Unfit
+from cm_tools.host.questions import Asked, Question
 from cm_tools.host.reports import RUNNERS
 from cm_tools.host.sandbox import Bound, Plan, Process
 from cm_tools.host.sessions import Gone
+from cm_tools.host.watching import Listener
 
 if TYPE_CHECKING:
     from cm_tools.host.manager import Manager
     from cm_tools.host.runner import Runner
-
-# How long the manager has to say that it took an answer, in seconds.
-TO_TAKE = 30.0
 
 
 class Gate:
@@ -31,61 +31,64 @@ class Gate:
     def __init__(self, runner: Runner) -> None:
         self.runner = runner
         self.keys = 0
+        # How many programs were halted.
+        self.halted = 0
         self.filter = seccomp.program()
 
-    async def control(self, manager: Manager, reader: asyncio.StreamReader,
-                      writer: asyncio.StreamWriter) -> None:
-        """A question: its line, the answer, and that the answer was taken."""
-        try:
-            word, action, inc, runner, url, moniker = (await reader.readline()).decode().split()
-            if manager.over:
-                return  # it asked just before its end, and what it asks for is the next one's now
-            manager.monikers[int(inc)] = moniker
-            if word == "launch":
-                await self._launch(manager, reader, writer, int(action), int(inc), runner, url, moniker)
-            elif word == "halt":
-                manager.asked.tally.started(int(action), int(inc), 0)
-                self.runner.tree.off(moniker)
-                answer = await self.halt(manager, int(inc))
-                await self._is_taken(reader, writer, answer)
-        except (ValueError, asyncio.TimeoutError) as fault:
-            if not manager.over:
-                self.runner.log.event("fault", of="gate", why=repr(fault))
-        except (Gone, OSError):
-            pass
-        finally:
-            writer.close()
+    def listen(self, manager: Manager) -> Listener:
+        """Has a manager ask from now on."""
+        return Listener(str(manager.gate), lambda link: Question(self, manager, link))
 
-    async def _launch(self, manager: Manager, reader: asyncio.StreamReader, writer: asyncio.StreamWriter,
-                      action: int, inc: int, runner: str, url: str, moniker: str) -> None:
-        manager.launching += 1
+    def begin(self, question: Question, manager: Manager, asked: Asked) -> None:
+        """Begins to answer what takes a while: a launch, or a halt. A manager that is put aside behind this
+        call is put aside with what it asked for."""
+        if asked.word == "launch":
+            manager.launching += 1
+            asyncio.ensure_future(self._answer_launch(question, manager, asked))
+            return
+        manager.asked.tally.started(asked.action, asked.inc, 0)
+        self.runner.tree.off(asked.moniker)
+        it = manager.instances.get(asked.inc)
+        if it is not None and it.ends is not None:
+            it.stopping = True
+        asyncio.ensure_future(self._answer_halt(question, manager, asked))
+
+    async def _answer_launch(self, question: Question, manager: Manager, asked: Asked) -> None:
         try:
-            answer, adopted = await self.launch(manager, action, inc, runner, url, moniker)
+            answer = await self.launch(manager, asked)
+        except (Gone, OSError):
+            question.end()
+        else:
+            question.answer(answer, functools.partial(self.was_taken, manager, asked, answer, False))
         finally:
             manager.launching -= 1
-        taken = await self._is_taken(reader, writer, answer)
-        if answer != "running":
-            return
-        if taken:
-            self.runner.tree.started(moniker)
-            return
+
+    async def _answer_halt(self, question: Question, manager: Manager, asked: Asked) -> None:
+        try:
+            question.answer(await self.halt(manager, asked.inc), lambda _: None)
+        except (Gone, OSError):
+            question.end()
+
+    def cant_begin(self, manager: Manager, asked: Asked, fault: OSError) -> None:
+        """No instance can be made for a launch, as where its folders have no room."""
+        self.runner.log.event("launch", moniker=asked.moniker, manager=manager.number, inc=asked.inc,
+                              answer="failed", why=fault.strerror or str(fault))
+
+    def was_taken(self, manager: Manager, asked: Asked, answer: str, adopted: bool, taken: bool) -> None:
+        """The manager counts on an answer to a launch, or doesn't."""
+        if answer == "running" and taken:
+            self.runner.tree.started(asked.moniker)
+        elif answer == "running":
+            asyncio.ensure_future(self._not_taken(manager, asked, adopted))
+
+    async def _not_taken(self, manager: Manager, asked: Asked, adopted: bool) -> None:
         dead = manager.pid < 0 or await sandbox.readable(manager.pid, 0.5)
-        self.runner.log.event("not-taken", moniker=moniker, manager=manager.number, adopted=adopted,
+        self.runner.log.event("not-taken", moniker=asked.moniker, manager=manager.number, adopted=adopted,
                               ended=dead)
         # What was adopted outlives this manager too.
-        it = manager.instances.get(inc)
+        it = manager.instances.get(asked.inc)
         if it is not None and it.counted is manager and not (adopted and dead):
-            await self.halt(manager, inc)
-
-    async def _is_taken(self, reader: asyncio.StreamReader, writer: asyncio.StreamWriter,
-                        answer: str) -> bool:
-        """Answers. Whether the manager says that it counts on the answer: else it told its caller of a
-        failure, and what was launched must not run."""
-        try:
-            writer.write(answer.encode() + b"\n")
-            return await asyncio.wait_for(reader.readline(), TO_TAKE) == b"taken\n"
-        except (OSError, asyncio.TimeoutError):
-            return False
+            await self.halt(manager, asked.inc)
 
     def instance(self, manager: Manager, inc: int, moniker: str) -> Instance:
         """The instance of an incarnation: one of the last manager that isn't asked for yet, or a new one."""
@@ -98,47 +101,51 @@ class Gate:
             manager.instances[inc] = it
         return manager.instances[inc]
 
-    async def launch(self, manager: Manager, action: int, inc: int, runner: str, url: str,
-                     moniker: str) -> tuple[str, bool]:
-        """The answer, and whether the program ran already under an earlier manager."""
-        it = self.instance(manager, inc, moniker)
-        begun, digest = time.monotonic(), programs.digest(self.runner.repo, url)
-        manager.asked.tally.started(action, inc, len(digest))
-        is_wanted = moniker in manager.wanted and moniker in self.runner.tree.on
+    def known(self, manager: Manager, asked: Asked) -> str | None:
+        """The answer to a launch where no program has to be started for it."""
+        it = self.instance(manager, asked.inc, asked.moniker)
+        digest = programs.digest(self.runner.repo, asked.url)
+        manager.asked.tally.started(asked.action, asked.inc, digest.size)
+        is_wanted = asked.moniker in manager.wanted and asked.moniker in self.runner.tree.on
         if it.lives() and it.counted is not manager:
-            if (it.url, it.digest) == (url, digest) and (not manager.replaying or is_wanted):
+            if (it.url, it.digest) == (asked.url, digest) and (not manager.replaying or is_wanted):
                 it.counted = manager
                 manager.adopted += 1
-                self.runner.log.note("adopt", moniker=moniker, manager=manager.number, inc=inc,
-                                     instance=it.key, before=self.runner.succession.before.get(moniker))
-                return "running", True
+                self.runner.log.note("adopt", moniker=asked.moniker, manager=manager.number, inc=asked.inc,
+                                     instance=it.key, before=self.runner.succession.before.get(asked.moniker))
+                return "running"
         if manager.replaying and not is_wanted:
             # What was off stays off: an eager child that was stopped, a child that runs once and has run.
-            return "declined", False
-        why = ""
+            return "declined"
+        return None
+
+    async def launch(self, manager: Manager, asked: Asked) -> str:
+        """The answer to a launch for which a program has to be started."""
+        it = self.instance(manager, asked.inc, asked.moniker)
+        begun, why = time.monotonic(), ""
         try:
-            answer = await self._launch_anew(manager, it, action, inc, runner, url, digest)
+            answer = await self._launch_anew(manager, it, asked)
         except Unfit as fault:
             answer, why = "declined", str(fault)
         except (OSError, Gone) as fault:
             answer, why = "failed", getattr(fault, "strerror", None) or str(fault) or "the manager is gone"
             it.part()
         told = {"why": why} if why else {"ms": round(1000 * (time.monotonic() - begun), 1)}
-        written = self.runner.log.event("launch", moniker=moniker, manager=manager.number, inc=inc,
-                                        instance=it.key, answer=answer, **told)
+        written = self.runner.log.event("launch", moniker=asked.moniker, manager=manager.number,
+                                        inc=asked.inc, instance=it.key, answer=answer, **told)
         if answer == "running" and not written:
-            await self.halt(manager, inc)
-            return "declined", False
-        return answer, False
+            await self.halt(manager, asked.inc)
+            return "declined"
+        return answer
 
-    async def _launch_anew(self, manager: Manager, it: Instance, action: int, inc: int, runner: str, url: str,
-                           digest: bytes) -> str:
+    async def _launch_anew(self, manager: Manager, it: Instance, asked: Asked) -> str:
         """Starts the program of an instance; `Unfit` where it can't be started."""
-        runner = await self.runner.environments.runner(it.moniker, runner)
+        url, digest = asked.url, programs.digest(self.runner.repo, asked.url)
+        runner = await self.runner.environments.runner(it.moniker, asked.runner)
         if runner not in RUNNERS:
             raise Unfit(f"the runner {runner} isn't known here")
         if it.due > time.monotonic():
-            manager.put_off[action] = it.due
+            manager.put_off[asked.action] = it.due
             raise Unfit(f"it ended by itself {it.crashes} times, and is started again by a connect behind "
                         f"{it.due - time.monotonic():.1f} s")
         await self._wait_for_dying(it)
@@ -159,11 +166,10 @@ class Gate:
         if it.starts > 1:
             # The sockets of the last start, at which nobody listens. No link is followed.
             if not removed_sockets(it.out):
-                await run_tool("find", str(it.out), "-xdev", "-type", "s", "-delete")
+                await self.runner.starts.run("find", str(it.out), "-xdev", "-type", "s", "-delete")
         it.process = await self._sandbox(manager, it, program, places)
         it.ends = asyncio.ensure_future(self.runner.watch(it))
-        assert it.process.bwrap.stdout is not None
-        it.task(self.runner.listen_to(it, it.process.bwrap.stdout))
+        it.tasks.add(Output(it, it.process.output, Said(self.runner.log, it.moniker)))
         for use in program.uses:
             if use.kind == "directory":
                 it.task(self.runner.doors.open_directory(it, use.path))
@@ -192,7 +198,7 @@ class Gate:
                     bound.append(await self.runner.storage.bound(it, use.path, places))
             plan = Plan(program, it.out, sockets, bound, seccomp=self.filter,
                         cgroup=self.runner.cgroups.place(it.key))
-            return await Process.start(plan)
+            return await Process.start(self.runner.starts, plan)
         except BaseException:
             it.part()
             raise
@@ -210,33 +216,9 @@ class Gate:
         assert it.process is not None
         in_time = await it.process.stop(it.notify)
         await ends
+        self.halted += 1
         asyncio.ensure_future(self.runner.tidy(it))
         answer = "stopped" if in_time else "killed"
         self.runner.log.event("halt", moniker=it.moniker, manager=manager.number, inc=inc, instance=it.key,
                               answer=answer, ms=round(1000 * (time.monotonic() - begun), 1))
         return answer
-
-
-def removed_sockets(folder: Path, most: int = 256) -> bool:
-    """Removes the sockets below a folder. False where there is more to look through than so much."""
-    looked = 0
-    for _, folders, names, at in os.fwalk(folder):
-        looked += len(folders) + len(names)
-        if looked > most:
-            return False
-        for name in names:
-            if stat.S_ISSOCK(os.stat(name, dir_fd=at, follow_symlinks=False).st_mode):
-                os.unlink(name, dir_fd=at)
-    return True
-
-
-async def run_tool(*words: str) -> None:
-    """Runs a tool of the system, and waits for it."""
-    tool = await asyncio.create_subprocess_exec(*words, stderr=subprocess.DEVNULL)
-    await tool.wait()
-
-
-async def remove(folder: Path) -> None:
-    """Removes a folder. A program may have left folders that are deep, or that nobody may read."""
-    if folder.exists():
-        await run_tool("sh", "-c", 'chmod -R u+rwX "$1"; rm -rf --one-file-system "$1"', "-", str(folder))

@@ -3,11 +3,17 @@
 from __future__ import annotations
 
 import asyncio
+import os
 import time
 from pathlib import Path
 from typing import TYPE_CHECKING, Any, Coroutine, Protocol
 
+from cm_tools.host.beneath import Listens
+from cm_tools.host.programs import NOTHING
+from cm_tools.host.watching import PIECE, read_now, watch
+
 if TYPE_CHECKING:
+    from cm_tools.host.events import Said
     from cm_tools.host.manager import Manager
     from cm_tools.host.sandbox import Process
 
@@ -23,6 +29,33 @@ class Ends(Protocol):
         """Ends it."""
 
 
+class Output:
+    """What a program prints, until all have closed it, or the program's end."""
+
+    def __init__(self, it: Instance, descriptor: int, said: Said) -> None:
+        self.it, self.descriptor, self.said = it, descriptor, said
+        self.watch = watch(descriptor)
+        self.watch.on_read(self._read)
+
+    def _read(self) -> None:
+        piece = os.read(self.descriptor, PIECE)
+        if piece:
+            self.said.take(piece)
+        else:
+            self._end()
+
+    def cancel(self) -> None:
+        """The program has ended. What stands in the pipe is its last word."""
+        self.said.take(read_now(self.descriptor))
+        self._end()
+
+    def _end(self) -> None:
+        self.it.tasks.discard(self)
+        self.watch.end()
+        os.close(self.descriptor)
+        self.said.end()
+
+
 class Instance:
     """An instance by a number of the runner's own; its folder outlives its program.
 
@@ -35,11 +68,12 @@ class Instance:
         self.inc: int | None = None
         self.manager: Manager | None = None
         self.counted: Manager | None = None
-        self.url, self.digest = "", b""
+        self.url, self.digest = "", NOTHING
         self.gone = self.stopping = self.notify = False
         self.out = folder / "out"
         # Where a program listens for what it provides below /svc.
-        (self.out / "svc").mkdir(parents=True, exist_ok=True)
+        for place in folder, self.out, self.out / "svc":
+            place.mkdir(exist_ok=True)
         self.process: Process | None = None
         self.starts = 0
         self.since = 0.0
@@ -51,6 +85,8 @@ class Instance:
         self.storage: set[str] = set()
         # Where read-only directories are laid for it.
         self.layers: list[str] = []
+        # Where it was found to listen, by paths.
+        self.listens: dict[str, Listens] = {}
         # What its uses hold open: path and provider.
         self.open: dict[int, tuple[str, str]] = {}
 
@@ -69,6 +105,8 @@ class Instance:
         """Ends all that goes on for it: its connections, and the sockets of its uses."""
         for task in list(self.tasks):
             task.cancel()
+        while self.listens:
+            self.listens.popitem()[1].close()
 
     def note_crash(self) -> float:
         """Its program ended by itself. How long the next start has to wait, in seconds: a first one not at

@@ -18,44 +18,6 @@ DETACH = 2
 LONGEST = 4096
 
 
-class Layers:
-    """Asks the process that lays layers, over this descriptor of a socket."""
-
-    def __init__(self, descriptor: int) -> None:
-        self.link = socket.socket(fileno=descriptor)
-        self.link.settimeout(60)
-
-    def lay(self, folder: int, at: str) -> None:
-        """Lays the folder of a descriptor at a place; an OSError where the system doesn't."""
-        os.makedirs(at, exist_ok=True)
-        socket.send_fds(self.link, [f"lay {at}".encode()], [folder])
-        self._answer()
-
-    def lift(self, at: str) -> None:
-        """Takes a layer away; who has it in a mount namespace of its own keeps it."""
-        self.link.send(f"lift {at}".encode())
-        self._answer()
-        os.rmdir(at)
-
-    def _answer(self) -> None:
-        answer = self.link.recv(LONGEST).decode()
-        if answer != "done":
-            raise OSError(22, answer or "nobody lays layers")
-
-    def works(self, place: str) -> bool:
-        """Whether the system lays one for this user."""
-        try:
-            folder = os.open(os.path.dirname(place), os.O_PATH | os.O_DIRECTORY)
-            try:
-                self.lay(folder, place)
-            finally:
-                os.close(folder)
-            self.lift(place)
-            return True
-        except OSError:
-            return False
-
-
 def _mount(libc: ctypes.CDLL, empty: str, folder: int, at: str) -> bool:
     options = f"lowerdir={empty}:/proc/self/fd/{folder}"
     flags = READ_ONLY | NO_SUID | NO_DEVICES

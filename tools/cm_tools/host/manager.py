@@ -15,6 +15,7 @@ from typing import TYPE_CHECKING
 
 from cm_tools.host.sandbox import readable
 from cm_tools.host.sessions import Asked, Gone
+from cm_tools.host.watching import Listener
 
 if TYPE_CHECKING:
     from cm_tools.host.instance import Instance
@@ -47,7 +48,7 @@ class Manager:
         self.launching = self.adopted = 0
         self.replaying = True
         self.over = False
-        self.server: asyncio.base_events.Server | None = None
+        self.server: Listener | None = None
         self.process: subprocess.Popen[bytes] | None = None
         self.pid = -1
 

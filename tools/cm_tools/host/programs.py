@@ -6,10 +6,13 @@ manager, which has read the manifest itself. Only what is executed comes from he
 
 from __future__ import annotations
 
+import functools
+import hashlib
 import os
 import re
 from dataclasses import dataclass
 from pathlib import Path
+from typing import NamedTuple
 from urllib.parse import urlsplit
 
 from cm_tools.relaxed import Node, SpellingFault, read_relaxed
@@ -74,6 +77,7 @@ class Repo:
         return Repo(Path(packages), Path(manifests or packages))
 
 
+@functools.lru_cache(maxsize=4096)
 def place_of(repo: Repo, url: str) -> tuple[Path, Path]:
     """The package's folder and the manifest's file."""
     try:
@@ -94,20 +98,28 @@ class Manifest:
     declared: Declared
 
 
+class Digest(NamedTuple):
+    """How many bytes a manifest has, and what tells them from others."""
+
+    size: int
+    sum: bytes
+
+
 class Known:
     """Manifests by their files as they were read, so that none is read again before its file has changed.
     They are let go where the files have more than so many bytes together."""
 
-    MOST_BYTES = 16 << 20
+    MOST_BYTES, MOST_DIGESTS = 16 << 20, 20_000
 
     def __init__(self) -> None:
-        self.manifests: dict[tuple[str, int, int], Manifest] = {}
+        self.manifests: dict[tuple[Path, int, int], Manifest] = {}
+        self.digests: dict[tuple[Path, int, int], Digest] = {}
         self.bytes = 0
 
     def take(self, place: Path) -> Manifest | None:
         """The manifest of a file; None where the file is too large."""
-        state = place.stat()
-        key = str(place), state.st_mtime_ns, state.st_size
+        state = os.stat(place)
+        key = place, state.st_mtime_ns, state.st_size
         found = self.manifests.get(key)
         if found is None and state.st_size <= LONGEST_MANIFEST:
             if self.bytes > self.MOST_BYTES:
@@ -119,6 +131,20 @@ class Known:
         return found
 
 
+    def digest(self, place: Path) -> Digest:
+        """What tells the bytes of a file from others."""
+        state = os.stat(place)
+        key = place, state.st_mtime_ns, state.st_size
+        found = self.digests.get(key)
+        if found is None:
+            if len(self.digests) > self.MOST_DIGESTS:
+                self.digests.clear()
+            read = place.read_bytes()
+            found = self.digests[key] = Digest(len(read), hashlib.sha256(read).digest())
+        return found
+
+
+NOTHING = Digest(0, b"")
 _known = Known()
 
 
@@ -136,12 +162,12 @@ def _manifest(repo: Repo, url: str) -> tuple[Path, Manifest]:
         raise Unfit(f"{url} can't be read: {getattr(fault, 'strerror', None) or fault}") from None
 
 
-def digest(repo: Repo, url: str) -> bytes:
-    """The manifest's bytes; none where it can't be read."""
+def digest(repo: Repo, url: str) -> Digest:
+    """What tells a manifest from others; one without bytes where it can't be read."""
     try:
-        return place_of(repo, url)[1].read_bytes()
+        return _known.digest(place_of(repo, url)[1])
     except (Unfit, OSError):
-        return b""
+        return NOTHING
 
 
 def manifest(repo: Repo, url: str) -> Node:

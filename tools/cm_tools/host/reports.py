@@ -7,12 +7,12 @@ that resolves the instance with all above it. That happens in a world of its own
 from __future__ import annotations
 
 import asyncio
-import os
 import subprocess
 from typing import TYPE_CHECKING, Iterable
 
 from cm_tools.host import programs
 from cm_tools.host.programs import Repo, Unfit
+from cm_tools.host.starts import Starts, plain_environment
 from cm_tools.host.tree import child_of
 from cm_tools.relaxed import Node
 from cm_tools.values import value_of, written
@@ -30,8 +30,8 @@ PATIENCE = 60.0
 class Reports:
     """Asks for reports on scripts. `words` are those that the component manager knows."""
 
-    def __init__(self, program: str, repo: Repo, tree: Tree) -> None:
-        self.program, self.repo, self.tree = program, repo, tree
+    def __init__(self, program: str, repo: Repo, tree: Tree, starts: Starts) -> None:
+        self.program, self.repo, self.tree, self.starts = program, repo, tree, starts
         self.words = known_words(program)
 
     def knows(self, word: str) -> bool:
@@ -40,18 +40,14 @@ class Reports:
 
     async def lines(self, word: str, script: Iterable[str]) -> list[str]:
         """The lines of a report on a script; `Unfit` where there is none."""
-        asked = await asyncio.create_subprocess_exec(
-            self.program, word, "--repo", str(self.repo.manifests), stdin=subprocess.PIPE,
-            stdout=subprocess.PIPE, stderr=subprocess.DEVNULL, env=plain_environment())
         text = "".join(line + "\n" for line in script).encode()
+        words = (self.program, word, "--repo", str(self.repo.manifests))
         try:
-            told, _ = await asyncio.wait_for(asked.communicate(text), PATIENCE)
+            told, status = await self.starts.said(words, text, PATIENCE)
         except asyncio.TimeoutError:
-            asked.kill()
-            await asked.wait()
             raise Unfit(f"the component manager's word {word} doesn't answer") from None
-        if asked.returncode:
-            raise Unfit(f"the component manager's word {word} ends with status {asked.returncode}")
+        if status:
+            raise Unfit(f"the component manager's word {word} ends with status {status}")
         return told.decode("utf-8", "replace").splitlines()
 
     def script(self, monikers: Iterable[str]) -> list[str]:
@@ -85,12 +81,6 @@ def known_words(program: str) -> frozenset[str]:
         return frozenset()
     text = (told.stdout + told.stderr).decode("utf-8", "replace").partition("\n")[0]
     return frozenset(text.removeprefix("usage: ").split(", ")) if text.startswith("usage: ") else frozenset()
-
-
-def plain_environment() -> dict[str, str]:
-    """The environment without what would have a script launch something, or write a journal."""
-    return {name: value for name, value in os.environ.items()
-            if name not in ("COMPONENT_RUNNER", "COMPONENT_JOURNAL")}
 
 
 def top_manifest(root: str) -> str:

@@ -10,33 +10,38 @@ from __future__ import annotations
 import asyncio
 import contextlib
 import os
+import resource
 import signal
 import sys
 import time
 import traceback
-from typing import Any, AsyncIterator, IO
+from typing import Any, AsyncIterator
 
 from cm_tools.host import watching
 from cm_tools.host.cgroups import Cgroups
 from cm_tools.host.consoles import Consoles
 from cm_tools.host.doors import Doors
 from cm_tools.host.environments import Environments
-from cm_tools.host.events import Log, Said
-from cm_tools.host.gate import Gate, remove
+from cm_tools.host.events import Log
+from cm_tools.host.gate import Gate
 from cm_tools.host.instance import Instance
-from cm_tools.host.layers import Layers
+from cm_tools.host.laying import Layers
+from cm_tools.host.leftovers import remove
 from cm_tools.host.manager import Manager
 from cm_tools.host.programs import Repo
 from cm_tools.host.realm import Room
 from cm_tools.host.reports import Reports
 from cm_tools.host.sessions import Gone
 from cm_tools.host.settings import Places, Settings
+from cm_tools.host.starts import Starts
 from cm_tools.host.storage import Storage
 from cm_tools.host.succession import Succession, end_by_force
-from cm_tools.host.tree import Tree
+from cm_tools.host.tree import Tree, created_part
 
 # How long an orderly end may take before the rest is ended by force, in seconds.
 TO_SHUT_DOWN = 60.0
+# How long no program has to come to its end before more is asked for at once, in seconds.
+A_MOMENT = 0.05
 CANT_START, FAULTY, NOT_IN_ORDER = 3, 4, 5
 
 
@@ -52,9 +57,10 @@ class Runner:
         self.repo = Repo.of(settings.repo, settings.manifests)
         self.birth = int(time.time())
         self.log = Log(self.places.log, quiet=settings.quiet)
-        self.log.snapshot = self.snapshot
+        self.log.snapshot, self.log.call_later = self.snapshot, asyncio.get_running_loop().call_later
         self.tree = Tree(settings.root, self.repo, self.places.tree)
-        reports = Reports(settings.program, self.repo, self.tree)
+        self.starts = Starts()
+        reports = Reports(settings.program, self.repo, self.tree, self.starts)
         self.environments, self.storage = Environments(reports), Storage(self, reports)
         self.cgroups, self.layers, self.lays_layers = Cgroups(settings.cgroup), layers, False
         self.gate, self.doors = Gate(self), Doors(self)
@@ -99,23 +105,18 @@ class Runner:
         process, start = it.process, it.starts
         assert process is not None
         await process.ended()
-        it.process = None
-        status = process.free()
+        it.process, status = None, process.status
         it.part()
         it.ends = None
         self.cgroups.remove(it.key)
-        self.lift_layers(it)
+        layers, it.layers = it.layers, []
+        if layers:
+            asyncio.ensure_future(self.layers.lift_all(layers))
         if not it.stopping and not self.over.is_set():
             pause = it.note_crash()
             again = {"again_behind_s": round(pause, 1)} if pause else {}
             self.log.event("exited", moniker=it.moniker, inc=it.inc, instance=it.key, status=status, **again)
             asyncio.ensure_future(self._tell_exit(it, start))
-
-    def lift_layers(self, it: Instance) -> None:
-        """Takes away what was laid for an instance."""
-        while it.layers:
-            with contextlib.suppress(OSError):
-                self.layers.lift(it.layers.pop())
 
     async def _tell_exit(self, it: Instance, start: int) -> None:
         manager = self.manager
@@ -134,7 +135,9 @@ class Runner:
         await self.tidy(it)
 
     async def tidy(self, it: Instance) -> None:
-        """Removes the folder of an instance that is gone."""
+        """Removes the folder of an instance that is gone: one at or below a child of a collection."""
+        if self.over.is_set() or not created_part(it.moniker):
+            return
         await asyncio.sleep(0.5)
         manager = self.manager
         if it.manager is None or it.manager is not manager or it.process is not None or it.inc is None:
@@ -147,6 +150,8 @@ class Runner:
 
     def forget(self, monikers: list[str]) -> None:
         """These have gone, with all below them; what comes at their places is others."""
+        if not monikers:
+            return
         for one in monikers:
             if self.manager is not None:
                 self.manager.forget(one)
@@ -172,22 +177,8 @@ class Runner:
             it.manager.instances.pop(it.inc, None)
         self.rooms.pop(it.key, None)
         for place in (it.folder, *self.storage.left_by(it)):
-            await remove(place)
-
-    async def listen_to(self, it: Instance, output: IO[bytes]) -> None:
-        """Keeps and shows what the program prints."""
-        said, reader = Said(self.log, it.moniker), asyncio.StreamReader(limit=1 << 18)
-        transport, _ = await asyncio.get_running_loop().connect_read_pipe(
-            lambda: asyncio.StreamReaderProtocol(reader), output)
-        try:
-            while piece := await reader.read(1 << 16):
-                said.take(piece)
-                await asyncio.sleep(0)
-        finally:
-            # What stands in the pipe at the program's end is its last word.
-            said.take(bytes(getattr(reader, "_buffer", b"")))
-            said.end()
-            transport.close()
+            await remove(self.starts, place)
+        self.log.gone(one.moniker for one in self.all_instances())
 
     # What it tells.
 
@@ -220,13 +211,14 @@ class Runner:
         for folder in (self.places.instances, self.places.empty, self.places.layers):
             folder.mkdir(parents=True, exist_ok=True)
         self.places.journals.mkdir(mode=0o700, exist_ok=True)
+        self.starts.connect()
         loop = asyncio.get_running_loop()
         for number in (signal.SIGTERM, signal.SIGINT):
             loop.add_signal_handler(number, self.over.set)
-        self.lays_layers = self.layers.works(str(self.places.layers / "probe"))
+        self.lays_layers = await self.layers.works(str(self.places.layers / "probe"))
         resumed = self.tree.open()
         for place in self.storage.sweep():
-            await remove(place)
+            await remove(self.starts, place)
         try:
             self.manager = await self.succession.begin()
         except Gone:
@@ -267,21 +259,34 @@ class Runner:
             self.log.event("root", moniker=".", manager=1, reply=reply)
 
     async def _shut_down(self) -> bool:
-        """Shuts the realm down, clients before providers; asked on many sessions at once, so that programs
-        that don't heed their stop don't add up. Whether all went in order."""
+        """Shuts the realm down, clients before providers. Whether all went in order."""
         manager = self.manager
         assert manager is not None
         self.log.event("shutdown", manager=manager.number)
         replies: list[str] = []
         with contextlib.suppress(OSError, Gone):
-            sessions = manager.asked.for_shutdown()
-            asked = [asyncio.ensure_future(session.ask("shutdown .")) for session in sessions]
-            done, _ = await asyncio.wait(asked, timeout=TO_SHUT_DOWN)
-            replies = [task.result()[0] for task in done if task.exception() is None]
+            replies = await self._asked_to_shut(manager)
         in_order = replies != [] and all(reply.startswith("shut ") for reply in replies)
         self.log.event("shut", manager=manager.number, in_order=in_order)
         self.tree.close(keep=not in_order)
         return in_order
+
+    async def _asked_to_shut(self, manager: Manager) -> list[str]:
+        """The replies to a shutdown. It is asked on one session, and on twice as many each time that no
+        program has come to its end for a moment: so programs that don't heed their stop don't add up, and the
+        manager has no more callers than it needs, since many of them cost it much in a wide realm."""
+        sessions, until = manager.asked.for_shutdown(), time.monotonic() + TO_SHUT_DOWN
+        asked: list[asyncio.Future[list[str]]] = []
+        before = self.gate.halted
+        while time.monotonic() < until:
+            if self.gate.halted == before:
+                further = sessions[len(asked):max(1, 2 * len(asked))]
+                asked += [asyncio.ensure_future(session.ask("shutdown .")) for session in further]
+            before = self.gate.halted
+            _, missing = await asyncio.wait(asked, timeout=A_MOMENT)
+            if not missing:
+                break
+        return [task.result()[0] for task in asked if task.done() and task.exception() is None]
 
     async def _end(self) -> None:
         self.over.set()
@@ -293,6 +298,7 @@ class Runner:
             await asyncio.wait(self.succession.ending)
         for place in (self.places.console, self.places.control):
             place.unlink(missing_ok=True)
+        self.starts.close()
         self.log.event("ends")
 
 
@@ -300,6 +306,9 @@ def main() -> int:
     """Runs a runner. The words of the command line are its settings, its end of the socket to who lays
     layers, and the other end, which isn't its own."""
     os.umask(0o077)
+    # Each instance takes some descriptors.
+    _, most = resource.getrlimit(resource.RLIMIT_NOFILE)
+    resource.setrlimit(resource.RLIMIT_NOFILE, (most, most))
     try:
         os.close(int(sys.argv[3]))
         layers = Layers(int(sys.argv[2]))

@@ -3,53 +3,23 @@
 from __future__ import annotations
 
 import asyncio
+import contextlib
 import json
 import os
 import signal
-import stat
-import subprocess
 from dataclasses import dataclass
 from pathlib import Path
-from typing import ClassVar, Sequence
+from typing import Sequence
 
 from cm_tools.host.programs import Program
+from cm_tools.host.starts import Begun, Starts
+from cm_tools.host.watching import read_all, read_now, watch
 
 LIMITS = ("--nproc=64", "--nofile=256", "--fsize=67108864", "--core=0")
 TEMPORARY = "16777216"
 # How long a program has that is told of its stop, in seconds.
 GRACE = 2.0
 BARE = ("setpriv", "--inh-caps=-all", "--ambient-caps=-all", "--bounding-set=-all", "--no-new-privs")
-
-
-def beneath(root: str | Path, path: str, make: bool = False, last: int = os.O_DIRECTORY) -> int:
-    """A descriptor of what is at the path below a folder that a program may write.
-
-    No link is followed, at no part: a link would be followed here, outside of the sandbox.
-    """
-    at = os.open(root, os.O_PATH | os.O_DIRECTORY | os.O_NOFOLLOW | os.O_CLOEXEC)
-    parts = path.strip("/").split("/")
-    for place, part in enumerate(parts):
-        try:
-            if make:
-                _make(part, at)
-            kind = last if place + 1 == len(parts) else os.O_DIRECTORY
-            further = os.open(part, os.O_PATH | os.O_NOFOLLOW | os.O_CLOEXEC | kind, dir_fd=at)
-        finally:
-            os.close(at)
-        at = further
-    return at
-
-
-def _make(part: str, at: int) -> None:
-    try:
-        os.mkdir(part, 0o755, dir_fd=at)
-    except FileExistsError:
-        pass
-
-
-def is_socket(descriptor: int) -> bool:
-    """Whether a descriptor is of a socket's file."""
-    return stat.S_ISSOCK(os.fstat(descriptor).st_mode)
 
 
 @dataclass
@@ -78,33 +48,43 @@ class Plan:
     seccomp: bytes = b""
 
 
-def words(plan: Plan, info: int, filter_at: int | None) -> list[str]:
-    """The words that start a program in a sandbox."""
+def words(plan: Plan, info: int, filter_at: int | None, bound_at: int) -> list[str | int]:
+    """The words that start a program in a sandbox. A number stands for a descriptor that it is started with:
+    for what bwrap tells, for the filter, and from `bound_at` on for the directories."""
     program = plan.program
-    told = ["bwrap", "--unshare-all", "--unshare-user", "--disable-userns", "--uid", "1000", "--gid", "1000",
-            "--cap-drop", "ALL", "--die-with-parent", "--new-session", "--hostname", "component",
-            "--clearenv", "--setenv", "PATH", "/usr/bin", "--info-fd", str(info),
-            "--ro-bind", "/usr", "/usr", "--symlink", "usr/bin", "/bin", "--symlink", "usr/sbin", "/sbin",
-            "--symlink", "usr/lib", "/lib", "--symlink", "usr/lib64", "/lib64",
-            "--proc", "/proc", "--dev", "/dev", "--remount-ro", "/dev",
-            "--size", TEMPORARY, "--tmpfs", "/tmp",
-            "--ro-bind", str(program.package), "/pkg", "--bind", str(plan.out), "/out"]
+    told: list[str | int] = [
+        "bwrap", "--unshare-all", "--unshare-user", "--disable-userns", "--uid", "1000", "--gid", "1000",
+        "--cap-drop", "ALL", "--die-with-parent", "--new-session", "--hostname", "component",
+        "--clearenv", "--setenv", "PATH", "/usr/bin", "--info-fd", info,
+        "--ro-bind", "/usr", "/usr", "--symlink", "usr/bin", "/bin", "--symlink", "usr/sbin", "/sbin",
+        "--symlink", "usr/lib", "/lib", "--symlink", "usr/lib64", "/lib64",
+        "--proc", "/proc", "--dev", "/dev", "--remount-ro", "/dev",
+        "--size", TEMPORARY, "--tmpfs", "/tmp",
+        "--ro-bind", str(program.package), "/pkg", "--bind", str(plan.out), "/out"]
     for name, value in program.environ:
         told += ["--setenv", name, value]
     if filter_at is not None:
-        told += ["--seccomp", str(filter_at)]
+        told += ["--seccomp", filter_at]
     for place, path in plan.sockets:
         told += ["--bind", str(place), path]
-    for one in plan.bound:
-        if one.layer:
-            told += ["--ro-bind", one.layer, one.path]
-        else:
-            told += ["--bind-fd" if one.may_write else "--ro-bind-fd", str(one.descriptor), one.path]
+    told += _directories(plan.bound, bound_at)
     told += ["--remount-ro", "/", "--chdir", "/pkg", "--", "/usr/bin/prlimit", *LIMITS,
              f"/pkg/{program.binary}", *program.args]
     if plan.cgroup:
         # It enters its cgroup before it is a sandbox.
         return ["/bin/sh", "-c", 'echo 0 > "$0/cgroup.procs" && exec "$@"', plan.cgroup, *told]
+    return told
+
+
+def _directories(bound: Sequence[Bound], bound_at: int) -> list[str | int]:
+    """The words for directories. Those without a layer are descriptors, in their order."""
+    told: list[str | int] = []
+    for one in bound:
+        if one.layer:
+            told += ["--ro-bind", one.layer, one.path]
+        else:
+            told += ["--bind-fd" if one.may_write else "--ro-bind-fd", bound_at, one.path]
+            bound_at += 1
     return told
 
 
@@ -126,72 +106,86 @@ async def readable(descriptor: int, seconds: float | None = None) -> bool:
 class Process:
     """A sandbox: bwrap outside, its first process inside, and the program below that.
 
-    It ends with the thread that starts it, so `start` has to be called in the runner's main thread.
+    `output` is a descriptor of what it prints, which is closed by who reads it. It is `over` when no process
+    of it is left.
     """
 
-    known: ClassVar[set[int]] = set()
-
-    def __init__(self, bwrap: subprocess.Popen[bytes]) -> None:
-        self.bwrap = bwrap
-        self.is_free = False
-        self.first = self.outer = self.inner = -1
+    def __init__(self, bwrap: Begun, output: int) -> None:
+        self.bwrap, self.output = bwrap, output
+        self.first = self.inner = -1
+        self.over: asyncio.Future[None] = asyncio.get_running_loop().create_future()
 
     @classmethod
-    async def start(cls, plan: Plan) -> Process:
+    async def start(cls, starts: Starts, plan: Plan) -> Process:
         """Starts a sandbox; an OSError where none could be made."""
+        output, into = os.pipe()
         told, tell = os.pipe()
-        passed = [tell, *(one.descriptor for one in plan.bound if not one.layer)]
-        filter_at = _pipe_of(plan.seccomp) if plan.seccomp else None
+        passed = [into, tell]
+        filter_at = len(passed) if plan.seccomp else None
         if filter_at is not None:
-            passed.append(filter_at)
+            passed.append(_pipe_of(plan.seccomp))
+        own = passed.copy()
+        started = words(plan, 1, filter_at, len(passed))
+        passed += [one.descriptor for one in plan.bound if not one.layer]
         try:
-            self = cls(subprocess.Popen(words(plan, tell, filter_at), stdin=subprocess.DEVNULL,
-                                        stdout=subprocess.PIPE, stderr=subprocess.STDOUT, pass_fds=passed))
+            self = cls(await starts.begin(started, passed, (None, 0, 0)), output)
         except BaseException:
+            os.close(output)
             os.close(told)
             raise
         finally:
-            os.close(tell)
-            if filter_at is not None:
-                os.close(filter_at)
-        cls.known.add(self.bwrap.pid)
+            for one in own:
+                os.close(one)
         await self._wait_for_first(told)
         return self
 
     async def _wait_for_first(self, told: int) -> None:
         """Reads which process is the first inside. It comes in pieces. Who stops reading it, or kills bwrap
         before it is there, may leave a first process inside that isn't bound to anybody's life yet."""
-        info = b""
-        try:
-            while not info.rstrip().endswith(b"}"):
-                await readable(told)
-                piece = os.read(told, 4096)
-                if not piece:
-                    break
-                info += piece
-        finally:
-            os.close(told)
+        info = await read_all(told, b"}")
         if not info.rstrip().endswith(b"}"):
-            self._fail()
+            await self._fail()
         self.first = json.loads(info)["child-pid"]
-        self.outer, self.inner = os.pidfd_open(self.bwrap.pid), os.pidfd_open(self.first)
+        try:
+            self.inner = os.pidfd_open(self.first)
+        except ProcessLookupError:
+            # It has ended, and bwrap has seen it.
+            self.inner = os.dup(self.bwrap.descriptor)
+        self.bwrap.status.add_done_callback(self._outer_ended)
 
-    def _fail(self) -> None:
+    async def _fail(self) -> None:
         self.bwrap.kill()
-        self.bwrap.wait()
-        Process.known.discard(self.bwrap.pid)
+        await self.bwrap.status
         sweep()
-        assert self.bwrap.stdout is not None
-        with self.bwrap.stdout as output:
-            os.set_blocking(output.fileno(), False)
-            said = (output.read() or b"").decode(errors="replace").strip()
+        os.close(self.bwrap.descriptor)
+        said = read_now(self.output).decode(errors="replace").strip()
+        os.close(self.output)
         raise OSError(said.replace("\n", "; ") or "bwrap was killed")
+
+    def _outer_ended(self, _: asyncio.Future[int]) -> None:
+        """The first process inside may need a moment yet."""
+        self.ends = watch(self.inner)
+        self.ends.on_read(self._inner_ended)
+
+    def _inner_ended(self) -> None:
+        self.ends.end()
+        for one in self.inner, self.bwrap.descriptor:
+            # As the first process of a namespace the runner is left the first process inside; and bwrap
+            # where its starter has ended.
+            with contextlib.suppress(ChildProcessError):
+                os.waitid(os.P_PIDFD, one, os.WEXITED | os.WNOHANG)
+            os.close(one)
+        self.over.set_result(None)
+
+    @property
+    def status(self) -> int:
+        """Its exit status, when it is over."""
+        return self.bwrap.status.result()
 
     async def ended(self, seconds: float | None = None) -> bool:
         """Waits until no process of the sandbox is left."""
-        if self.is_free:
-            return True
-        return await readable(self.outer, seconds) and (self.is_free or await readable(self.inner, seconds))
+        await asyncio.wait([self.over], timeout=seconds)
+        return self.over.done()
 
     async def stop(self, notify: bool) -> bool:
         """Ends it. Whether it needed no force: it was told and ended in time, or wants not to be told."""
@@ -211,26 +205,10 @@ class Process:
 
     async def kill(self) -> None:
         """Ends it by force, with all that runs in it."""
-        for process in () if self.is_free else (self.inner, self.outer):
-            try:
+        for process in () if self.over.done() else (self.inner, self.bwrap.descriptor):
+            with contextlib.suppress(ProcessLookupError):
                 signal.pidfd_send_signal(process, signal.SIGKILL)
-            except ProcessLookupError:
-                pass
         await self.ended()
-
-    def free(self) -> int:
-        """Lets go what the system keeps of it. Its exit status."""
-        self.is_free = True
-        status = self.bwrap.wait()
-        Process.known.discard(self.bwrap.pid)
-        try:
-            # As the first process of a namespace the runner is left the first process inside.
-            os.waitid(os.P_PIDFD, self.inner, os.WEXITED | os.WNOHANG)
-        except ChildProcessError:
-            pass
-        os.close(self.outer)
-        os.close(self.inner)
-        return status
 
 
 def sweep() -> None:
@@ -239,8 +217,6 @@ def sweep() -> None:
     with open(f"/proc/self/task/{os.getpid()}/children", encoding="ascii") as file:
         children = [int(word) for word in file.read().split()]
     for pid in children:
-        if pid in Process.known:
-            continue
         with open(f"/proc/{pid}/comm", encoding="utf-8") as file:
             if file.read() != "bwrap\n":
                 continue
@@ -254,5 +230,3 @@ def _pipe_of(data: bytes) -> int:
     os.write(into, data)
     os.close(into)
     return out
-
-

@@ -11,7 +11,6 @@ import contextlib
 import hashlib
 import os
 import re
-import subprocess
 import time
 from pathlib import Path
 from typing import TYPE_CHECKING, NamedTuple
@@ -21,7 +20,9 @@ from cm_tools.host.instance import Instance
 from cm_tools.host.programs import Unfit
 from cm_tools.host.reports import Reports
 from cm_tools.host.sandbox import Bound
+from cm_tools.host.starts import Starts
 from cm_tools.host.tree import created_part
+from cm_tools.host.watching import pieces
 
 if TYPE_CHECKING:
     from cm_tools.host.runner import Runner
@@ -151,7 +152,7 @@ class Storage:
 
     async def _look(self, name: str) -> None:
         """Counts what a folder has, and whether that is more than the most."""
-        used = await counted(self.top / name, self.most_files)
+        used = await counted(self.reports.starts, self.top / name, self.most_files)
         if used.size > self.most_bytes or used.files > self.most_files or not used.is_whole:
             self.full.add(name)
         else:
@@ -166,19 +167,26 @@ def _told(rows: list[re.Match[str]]) -> dict[str, str]:
     return {row[2]: f"{row[4] or 'builtin'} {row[3]}" for row in rows}
 
 
-async def counted(folder: Path, most_files: int) -> Used:
+async def counted(starts: Starts, folder: Path, most_files: int) -> Used:
     """What is below a folder that a program may write: depth and forbidden folders are no way to hide it."""
-    find = await asyncio.create_subprocess_exec(
-        "find", str(folder), "-xdev", "-ignore_readdir_race", "-printf", "%b\n", stdin=subprocess.DEVNULL,
-        stdout=subprocess.PIPE, stderr=subprocess.DEVNULL)
-    assert find.stdout is not None
+    out, into = os.pipe()
+    words = ("find", str(folder), "-xdev", "-ignore_readdir_race", "-printf", "%b\n")
+    try:
+        find = await starts.begin(words, (into,), (None, 0, None))
+    except BaseException:
+        os.close(out)
+        raise
+    finally:
+        os.close(into)
     blocks = files = 0
     behind = b""
-    while files <= most_files and (piece := await find.stdout.read(1 << 16)):
-        *lines, behind = (behind + piece).split(b"\n")
-        files += len(lines)
-        blocks += sum(map(int, lines))
-    if find.returncode is None and files > most_files:
-        with contextlib.suppress(ProcessLookupError):
-            find.kill()
-    return Used(512 * blocks, files, await find.wait() == 0)
+    async with contextlib.aclosing(pieces(out)) as come:
+        async for piece in come:
+            *lines, behind = (behind + piece).split(b"\n")
+            files += len(lines)
+            blocks += sum(map(int, lines))
+            if files > most_files:
+                find.kill()
+                break
+    os.close(find.descriptor)
+    return Used(512 * blocks, files, await find.status == 0)

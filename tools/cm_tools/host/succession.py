@@ -3,9 +3,9 @@
 from __future__ import annotations
 
 import asyncio
-import functools
 import shutil
 import time
+from pathlib import Path
 from typing import TYPE_CHECKING
 
 from cm_tools.host.instance import Instance
@@ -25,6 +25,8 @@ TO_READ = 0.5
 FOR_COMMANDS, FOR_CONNECTS = 10.0, 1.0
 # How often another manager is begun before it is given up.
 TRIES = 30
+# How many journals are kept.
+KEPT_JOURNALS = 16
 
 
 class Succession:
@@ -46,8 +48,7 @@ class Succession:
         folder.mkdir()
         journal = places.journals / f"{self.runner.birth}-{self.numbers}.journal"
         manager = Manager(self.numbers, folder, journal)
-        manager.server = await asyncio.start_unix_server(
-            functools.partial(self.runner.gate.control, manager), str(manager.gate), backlog=64)
+        manager.server = self.runner.gate.listen(manager)
         try:
             manager.start(self.runner.settings)
             await manager.listens()
@@ -65,6 +66,9 @@ class Succession:
         self.runner.log.note("manager-ended", manager=manager.number, by_itself=by_itself,
                              journal=manager.journal.name if size is not None else "", bytes=size or 0)
         shutil.rmtree(manager.folder, ignore_errors=True)
+        for place in older(self.runner.places.journals, KEPT_JOURNALS):
+            place.unlink(missing_ok=True)
+            self.runner.log.note("journal-removed", journal=place.name)
 
     async def follow(self) -> None:
         """Puts a manager into the place of each that ends, hangs or is nearly full, until all is over."""
@@ -244,6 +248,12 @@ class Succession:
                 asyncio.ensure_future(self.runner.drop(it))
             elif it.ends is not None:
                 asyncio.ensure_future(end_by_force(it))
+
+
+def older(folder: Path, count: int) -> list[Path]:
+    """The files of a folder but for so many that were written last."""
+    found = sorted(folder.iterdir(), key=lambda place: place.stat().st_mtime_ns, reverse=True)
+    return found[count:]
 
 
 async def end_by_force(it: Instance) -> None:

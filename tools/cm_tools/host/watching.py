@@ -8,49 +8,75 @@ from __future__ import annotations
 
 import asyncio
 import contextlib
+import functools
 import math
+import os
 import select
 import selectors
 import socket
 import time
 import traceback
-from typing import Any, Callable, Coroutine, Mapping, TypeVar
+from typing import Any, AsyncIterator, Callable, Coroutine, Mapping, TypeVar, Union
 
-READS, WRITES = select.EPOLLIN, select.EPOLLOUT
+READS, WRITES, HUNG = select.EPOLLIN, select.EPOLLOUT, select.EPOLLHUP
 MOST = 256
+# What is read of a pipe at once: all that it holds.
+PIECE = 1 << 16
 Result = TypeVar("Result")
+Called = Union[Callable[[], None], None]
+NOTHING: Called = None
 
 
 class Watch:
-    """What is called when a socket can be read, and when it can be written; nothing where that isn't wanted.
+    """What is called when a socket can be read, when it can be written, and when its other end has closed
+    both ways; nothing where that isn't wanted.
 
-    It has to be ended before the socket is closed.
+    It has to be ended before the socket is closed. A descriptor of a process can be read when that has
+    ended. It is `hung` where the other end was seen to have closed both ways.
     """
 
-    __slots__ = ("selector", "number", "reads", "writes", "mask")
+    __slots__ = ("selector", "number", "reads", "writes", "hangs", "mask", "since", "hung")
 
     def __init__(self, selector: Selector, number: int) -> None:
-        self.selector, self.number, self.mask = selector, number, 0
-        self.reads: Callable[[], None] | None = None
-        self.writes: Callable[[], None] | None = None
+        self.selector, self.number, self.since = selector, number, 0
+        self.reads = self.writes = self.hangs = NOTHING
+        # What the system looks for; nothing where it isn't asked to. That the other end has closed both ways
+        # it tells always.
+        self.mask: int | None = None
+        self.hung = False
 
-    def on_read(self, then: Callable[[], None] | None) -> None:
+    def on_read(self, then: Called) -> None:
         """Sets what is called when there is something to read, or the other end is closed."""
         self.reads = then
         self._tell()
 
-    def on_write(self, then: Callable[[], None] | None) -> None:
+    def on_write(self, then: Called) -> None:
         """Sets what is called when something can be written."""
         self.writes = then
         self._tell()
 
-    def end(self) -> None:
-        """Watches no more."""
-        self.reads = self.writes = None
+    def on_hang(self, then: Called) -> None:
+        """Sets what is called when the other end has closed both ways, in the place of what is called when
+        there is something to read."""
+        self.reads, self.hangs = None, then
         self._tell()
 
+    def end(self) -> None:
+        """Watches no more."""
+        self.reads = self.writes = self.hangs = None
+        self._tell()
+
+    def drop(self) -> None:
+        """Watches no more, as the socket is closed in this moment. The system forgets it by itself."""
+        self.reads = self.writes = self.hangs = None
+        if self.mask is not None:
+            self.mask = None
+            del self.selector.watches[self.number]
+
     def _tell(self) -> None:
-        mask = (READS if self.reads else 0) | (WRITES if self.writes else 0)
+        mask = None
+        if self.reads or self.writes or self.hangs:
+            mask = (READS if self.reads else 0) | (WRITES if self.writes else 0)
         if mask != self.mask:
             self.selector.watch(self, mask)
             self.mask = mask
@@ -63,19 +89,22 @@ class Selector(selectors.BaseSelector):
         self.epoll = select.epoll()
         self.keys: dict[int, selectors.SelectorKey] = {}
         self.watches: dict[int, Watch] = {}
+        # How often it was looked what has come. What is watched since the last time isn't called for that: it
+        # may have the number of another one that is closed by now.
+        self.turn = 0
         # Whether the loop has got something to do since it began to wait.
         self.is_wanted = False
 
-    def watch(self, one: Watch, mask: int) -> None:
-        """Has the system watch for other events of a socket; for none with 0."""
-        if not mask:
+    def watch(self, one: Watch, mask: int | None) -> None:
+        """Has the system watch for other events of a socket; for none at all with None."""
+        if mask is None:
             del self.watches[one.number]
             self.epoll.unregister(one.number)
-        elif one.mask:
+        elif one.mask is not None:
             self.epoll.modify(one.number, mask)
         else:
             self.epoll.register(one.number, mask)
-            self.watches[one.number] = one
+            self.watches[one.number], one.since = one, self.turn
 
     def select(self, timeout: float | None = None) -> list[tuple[selectors.SelectorKey, int]]:
         """Waits until the loop has something to do. What needs no loop is done meanwhile."""
@@ -96,10 +125,12 @@ class Selector(selectors.BaseSelector):
             events = self.epoll.poll(wait, MOST)
         except InterruptedError:
             return found
+        self.turn += 1
         for number, mask in events:
             one = self.watches.get(number)
             if one is not None:
-                _call(one, mask)
+                if one.since != self.turn:
+                    _call(one, mask)
             elif number in self.keys:
                 key = self.keys[number]
                 wanted = (selectors.EVENT_READ if mask & ~WRITES else 0) \
@@ -158,11 +189,86 @@ class Loop(asyncio.SelectorEventLoop):
         return super().call_at(*words, **named)
 
 
-def watch(link: socket.socket) -> Watch:
-    """A watch of a socket in the loop that runs."""
+def watch(link: socket.socket | int) -> Watch:
+    """A watch of a socket, or of a descriptor, in the loop that runs."""
+    return Watch(watcher(), _number(link))
+
+
+def watcher() -> Selector:
+    """What watches in the loop that runs."""
     loop = asyncio.get_running_loop()
     assert isinstance(loop, Loop)
-    return Watch(loop.watcher, link.fileno())
+    return loop.watcher
+
+
+class Listener:
+    """A socket at a path. What comes to it is given to `take`, which doesn't wait."""
+
+    def __init__(self, place: str, take: Callable[[socket.socket], object], backlog: int = 64) -> None:
+        self.take = take
+        self.door = socket.socket(socket.AF_UNIX, socket.SOCK_STREAM)
+        self.door.bind(place)
+        self.door.listen(backlog)
+        self.door.setblocking(False)
+        self.watch = watch(self.door)
+        self.watch.on_read(self._accept)
+
+    def _accept(self) -> None:
+        try:
+            link, _ = self.door.accept()
+        except BlockingIOError:
+            return
+        link.setblocking(False)
+        self.take(link)
+
+    def close(self) -> None:
+        """Takes no more."""
+        self.watch.end()
+        self.door.close()
+
+
+async def pieces(descriptor: int) -> AsyncIterator[bytes]:
+    """What comes from a pipe, until nobody has it open for writing. Then it is closed here, too."""
+    comes, loop = watch(descriptor), asyncio.get_running_loop()
+    try:
+        while True:
+            has_come: asyncio.Future[None] = loop.create_future()
+            comes.on_read(functools.partial(_settle, comes, has_come))
+            await has_come
+            piece = os.read(descriptor, PIECE)
+            if not piece:
+                return
+            yield piece
+    finally:
+        comes.end()
+        os.close(descriptor)
+
+
+def _settle(comes: Watch, has_come: asyncio.Future[None]) -> None:
+    comes.on_read(None)
+    if not has_come.done():
+        has_come.set_result(None)
+
+
+async def read_all(descriptor: int, until: bytes | None = None) -> bytes:
+    """What comes from a pipe until nobody has it open for writing, or until it ends with this but for white
+    space. The descriptor is closed."""
+    read = bytearray()
+    async with contextlib.aclosing(pieces(descriptor)) as come:
+        async for piece in come:
+            read.extend(piece)
+            if until is not None and read.rstrip().endswith(until):
+                break
+    return bytes(read)
+
+
+def read_now(descriptor: int) -> bytes:
+    """What stands in a pipe, at most as much as a pipe holds."""
+    os.set_blocking(descriptor, False)
+    try:
+        return os.read(descriptor, PIECE)
+    except BlockingIOError:
+        return b""
 
 
 def run(work: Coroutine[Any, Any, Result]) -> Result:
@@ -183,11 +289,14 @@ def run(work: Coroutine[Any, Any, Result]) -> Result:
 
 
 def _call(one: Watch, mask: int) -> None:
+    one.hung = mask & HUNG != 0
     try:
         if one.reads is not None and mask & ~WRITES:
             one.reads()
         if one.writes is not None and mask & ~READS:
             one.writes()
+        if one.hangs is not None and one.hung:
+            one.hangs()
     except Exception:
         # As with asyncio's own: what goes wrong with one socket ends nothing else.
         traceback.print_exc()
@@ -204,6 +313,6 @@ def _number(fileobj: Any) -> int:
 def unsent(link: socket.socket, data: bytes) -> bytes:
     """Sends what the other end takes at once. What it doesn't take yet."""
     try:
-        return data[link.send(data):]
+        return data[link.send(data, socket.MSG_DONTWAIT):]
     except BlockingIOError:
         return data

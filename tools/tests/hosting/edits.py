@@ -9,7 +9,7 @@ from tests.hosting.trial import TOOLS
 
 # What is replaced by what in which file, and the try of the intruder that comes through.
 FOLLOWS = [
-    ("sandbox.py", "os.O_PATH | os.O_NOFOLLOW | os.O_CLOEXEC | kind", "os.O_PATH | os.O_CLOEXEC | kind")]
+    ("beneath.py", "os.O_PATH | os.O_NOFOLLOW | os.O_CLOEXEC | kind", "os.O_PATH | os.O_CLOEXEC | kind")]
 EDITS: dict[str, tuple[list[tuple[str, str, str]], str]] = {
     "a refusal is taken for an opening": (
         [("doors.py", 'if not reply.startswith("opened "):',
@@ -53,7 +53,11 @@ EDITS: dict[str, tuple[list[tuple[str, str, str]], str]] = {
     "temporary files of any size": (
         [("sandbox.py", '"--size", TEMPORARY,', "")], "64 MB into its own memory"),
     "a descriptor is left open": (
-        [("sandbox.py", "passed.append(filter_at)", "passed += [filter_at, os.open('/', os.O_RDONLY)]")],
+        [("sandbox.py", "for place, path in plan.sockets:",
+          "told += ['--setenv', 'LEFT', bound_at + sum(not one.layer for one in plan.bound)]\n"
+          "    for place, path in plan.sockets:"),
+         ("sandbox.py", "        try:\n            self = cls(",
+          "        passed.append(os.open('/', os.O_RDONLY))\n        try:\n            self = cls(")],
         "descriptors"),
     "the host's files are shown": (
         [("sandbox.py", '"--ro-bind", "/usr", "/usr", "--symlink"',

@@ -142,6 +142,21 @@ except OSError as fault:
     print("full behind", count, fault, flush=True)
 os.read(os.pipe()[0], 1)
 """
+MANY_FILES = """#!/usr/bin/python3
+import os
+count = 0
+try:
+    while count < 100000:
+        if count % 1000 == 0:
+            os.mkdir(f"/out/{count}")
+            os.chdir(f"/out/{count}")
+        os.close(os.open(str(count), os.O_CREAT | os.O_WRONLY))
+        count += 1
+except OSError as fault:
+    print(fault, flush=True)
+print("made", count, flush=True)
+os.read(os.pipe()[0], 1)
+"""
 USES = '{program:{runner:"elf",binary:"bin/x"%s},use:[{protocol:"t.Door"}]}'
 ALONE = '{program:{runner:"elf",binary:"bin/x"%s}}'
 NOTIFY = ',lifecycle:{stop_event:"notify"}'
@@ -198,7 +213,8 @@ while True:
 HOSTILE = {
     "sender": (USES % "", SENDER), "many": (USES % "", MANY), "other": (USES % "", SENDER),
     "again": (USES % "", AGAIN), "last": (USES % NOTIFY, LAST), "daemons": (ALONE % NOTIFY, DAEMONS),
-    "filler": (ALONE % "", FILLER),
+    "filler": (ALONE % "", FILLER), "files": (ALONE % "", MANY_FILES),
+    "late": (ALONE % "", DAEMONS),
     "grows": ('{program:{runner:"elf",binary:"bin/x"},collections:[{name:"tasks",durability:"transient"}],'
               'use:[{protocol:"fuchsia.component.Realm",from:"framework"}]}', GROWS),
 }
@@ -271,6 +287,15 @@ def filled(host: Host) -> str:
     return "within 256 MB" if int(host.said("filler").split()[2]) <= 8 else "more than 256 MB"
 
 
+def files(host: Host) -> str:
+    """How many files the folders of all instances take."""
+    host.ask("start files")
+    host.wait(r"said      files \| made")
+    made = int(host.said("files").split()[-1])
+    host.ask("stop files")
+    return "within 65,536" if made <= 65_536 else "more than 65,536"
+
+
 def doomed(host: Host) -> str:
     """What a program reaches that is being destroyed. On a machine that is busy its time may be over before
     it has tried anything: then another one tries."""
@@ -292,8 +317,15 @@ def counted_off(host: Host) -> str:
     host.ask("start again")
     host.wait(r"said      again \| connect 1 ")
     host.ask("exited again")
-    host.wait(r"^refused   again /svc/t.Door: ")
-    return str(host.events("refused")[-1]["why"])
+    before = host.said("again").count("connect ")
+
+    def refusals() -> list[str]:
+        return [str(one["why"]) for one in host.events("refused") if one["moniker"] == "again"]
+
+    # One may have been under way.
+    host.wait_until(lambda: refusals() != [] or host.said("again").count("connect ") > before + 2,
+                    "refusal or connect")
+    return refusals()[0] if refusals() else "reached"
 
 
 def a_hundred(host: Host) -> float:
@@ -309,13 +341,21 @@ TO_STOP, TO_VANISH = 60.0, 10.0
 # A small host, so that few connections show it.
 LIMITS = "CONNECTIONS, AT_ONCE, A_SECOND = 32, "
 FEW = [("doors.py", LIMITS + "2000, 20", LIMITS + "40, 20")]
+# Whom the manager refuses is connected all the same.
+REFUSES = '                if not reply.startswith("opened "):\n'
+REACHES = [("doors.py", REFUSES, """\
+                if reply.startswith(("refused 81", "refused 85")):
+                    number = next(one.inc for one in manager.instances.values() if one.moniker == "door")
+                    reply = f"opened /svc/t.Door at door incarnation {number}"
+""" + REFUSES)]
 # What is tried, what holds, and changes of the sources with which it doesn't.
 TRIES: dict[str, tuple[Callable[[Host], str], str, list[list[tuple[str, str, str]]]]] = {
     "descriptors are dropped": (descriptors, "descriptors 0", [[
-        ("carried.py", "            count = self.source.recv_into(BUFFER)\n",
+        ("carried.py", "            count = self.source.recv_into(BUFFER, 0, NOW)\n",
+         "            self.source.setblocking(False)\n"
          "            piece, given, _, _ = socket.recv_fds(self.source, 1 << 16, 4)\n"
          "            count, BUFFER[:len(piece)] = len(piece), piece\n"),
-        ("carried.py", "            sent = self.sink.send(BUFFER[:count])\n",
+        ("carried.py", "            sent = self.sink.send(BUFFER[:count], NOW)\n",
          "            sent = socket.send_fds(self.sink, [BUFFER[:count]], given)\n")]]),
     "a use has 32 connections at once": (at_once, "held 32", [[
         ("doors.py", LIMITS, LIMITS.replace("32", "40"))]]),
@@ -327,8 +367,11 @@ TRIES: dict[str, tuple[Callable[[Host], str], str, list[list[tuple[str, str, str
         ("realm.py", "AT_ONCE, A_SECOND = 200, 20", "AT_ONCE, A_SECOND = 1000, 20")]]),
     "all folders together have 256 MB": (filled, "within 256 MB", [[
         ("front.py", "size=256m", "size=400m")]]),
-    "what is destroyed reaches nothing": (doomed, "refused 81 gone incarnation", []),
-    "what counts as off reaches nothing": (counted_off, "refused 85 client-off", []),
+    "what is destroyed reaches nothing": (doomed, "refused 81 gone incarnation", [REACHES]),
+    "what counts as off reaches nothing": (counted_off, "refused 85 client-off", [REACHES]),
+    # The last one: no further instance has room then.
+    "all folders together have 65,536 files": (files, "within 65,536", [[
+        ("front.py", "nr_inodes=65536", "nr_inodes=200000")]]),
 }
 
 
@@ -348,6 +391,8 @@ class Hostile(unittest.TestCase):
         for name, (tries, holds, _) in TRIES.items():
             told = tries(host)
             self.assertTrue(told.startswith(holds), (name, told))
+        self.assertIn("gate-failed", host.ask("start late")[0])
+        host.wait(r"^failed    late: No space left on device")
         self.assertTrue(host.ask("show .")[0].startswith("shown"))
         self.assertEqual(host.end(), 0)
         self.assertEqual(host.left(), [])

@@ -73,11 +73,13 @@ class Journals(unittest.TestCase):
         host = Host(lay(self.base), run=self.base / "r", environment={"COMPONENT_HOST_ROLL_ENTRIES": "400"})
         self.addCleanup(host.remove)
         host.ask("start client")
-        for count in range(200):
+
+        def is_replaced() -> bool:
+            # Each one has to be asked so much: what the one before was asked doesn't count.
             host.ask(*["show ."] * 20)
-            if len(re.findall("^replaced ", host.text(), re.M)) >= 2:
-                break
-        host.wait(r"^replaced ", 2)
+            return len(re.findall("^replaced ", host.text(), re.M)) >= 2
+
+        host.wait_until(is_replaced, "second replacement")
         self.assertEqual(host.end(), 0)
         managers = 1 + len(host.events("replaced"))
         self.legal(host, managers)

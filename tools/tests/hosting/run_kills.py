@@ -7,7 +7,55 @@ import re
 import signal
 import unittest
 
-from tests.hosting.trial import Host, folder, lay
+from tests.hosting.trial import Host, folder, lay, package, root_of
+
+
+PROVIDER = """#!/usr/bin/python3
+import os, socket
+door = socket.socket(socket.AF_UNIX)
+door.bind("/out/svc/t.Door")
+door.listen(8)
+held = []
+while True:
+    held.append(door.accept()[0])
+"""
+HOLDS = """#!/usr/bin/python3
+import os, socket
+links = []
+for count in range(5):
+    links.append(socket.socket(socket.AF_UNIX))
+    links[-1].connect("/svc/t.Door")
+for count in 1, 3:
+    links[count].close()
+print("holds", flush=True)
+os.read(os.pipe()[0], 1)
+"""
+
+
+class Opened(unittest.TestCase):
+    """KILL to all of a host."""
+
+    def test_open(self) -> None:
+        """the log of a host that is killed tells which connections were open"""
+        base = folder()
+        repo = base / "repo"
+        package(repo, "door", '{program:{runner:"elf",binary:"bin/x"},capabilities:[{protocol:"t.Door"}],'
+                'expose:[{protocol:"t.Door",from:"self"}]}', PROVIDER)
+        package(repo, "holds", '{program:{runner:"elf",binary:"bin/x"},use:[{protocol:"t.Door"}]}', HOLDS)
+        root = root_of(repo, "door", "holds", more=',offer:[{protocol:"t.Door",from:"#door",to:"#holds"}]')
+        host = Host(repo, root, run=base / "r")
+        self.addCleanup(host.remove)
+        host.ask("start holds")
+        host.wait(r"said      holds \| holds")
+
+        def told() -> set[int]:
+            return ({one["connection"] for one in host.events("opened")}
+                    - {one["connection"] for one in host.events("closed")})
+
+        host.wait_until(lambda: len(host.events("opened")) == 5 and len(told()) == 3, "connections")
+        host.kill()
+        self.assertEqual(len(told()), 3)
+        self.assertEqual(host.left(), [])
 
 
 class Kills(unittest.TestCase):
@@ -17,9 +65,11 @@ class Kills(unittest.TestCase):
         self.base = folder()
         self.host = Host(lay(self.base), run=self.base / "r")
         self.addCleanup(self.host.remove)
+        # The browser reads a page of the logger, which the client has crash.
+        self.host.wait(r"said      browser +\| .*of the log")
         self.host.ask("start client")
-        # What is started by itself, and by connects, is there.
-        for name, line in ("client", "next line has number"), ("browser", ".*of the log"), ("store", "up"):
+        # What is started by connects is there.
+        for name, line in ("client", "next line has number"), ("store", "up"):
             self.host.wait(rf"said      {name} +\| {line}")
 
     def test_manager(self) -> None:

@@ -109,7 +109,11 @@ class Host:
     def said(self, moniker: str) -> str:
         """What an instance printed."""
         place = self.run / "log" / f"said-{moniker.replace('/', '%2F')}.log"
-        return place.read_text(errors="replace") if place.exists() else ""
+        try:
+            return place.read_text(errors="replace")
+        except FileNotFoundError:
+            # It printed nothing yet, or its file is just put aside.
+            return ""
 
     def wait(self, pattern: str, times: int = 1, seconds: float = PATIENCE) -> None:
         """Waits for so many such lines on its screen."""

@@ -35,7 +35,8 @@ pub enum BeginAnswer {
     Begins(Boxed<Work>),
 }
 
-/// What a begin comes to.
+/// What a begin comes to, read of a tree that stays as it is: [`crate::Realm::begin`] takes the step.
+/// `Err` where memory runs out.
 pub fn begin_answer(
     alloc: Global,
     table: &Table,
@@ -74,7 +75,7 @@ pub fn is_same(one: ActKind, other: ActKind) -> bool
     one == other
 }
 
-/// What a begin comes to where no action is pending.
+/// What a begin comes to at an instance where no action is pending.
 fn idle_answer(
     alloc: Global,
     table: &Table,
@@ -126,7 +127,7 @@ fn needs_decl(kind: ActKind, resolved: bool) -> bool
     }
 }
 
-/// The work of an action at an instance that lives.
+/// What the beginner of an action has to do, at an instance that lives. `Err` where memory runs out.
 fn work_at(
     alloc: Global,
     table: &Table,
@@ -148,6 +149,8 @@ fn work_at(
     }
 }
 
+/// The work of a resolve at a row with this parent, whose URL is relative to the parent's.
+/// `Err(Memory)` comes where memory runs out.
 fn resolve_work(
     alloc: Global,
     table: &Table,
@@ -207,7 +210,7 @@ pub fn text_or_empty(alloc: Global, text: Option<&Text>) -> Result<Text, Memory>
     }
 }
 
-/// The absolute URL of a parent.
+/// The absolute URL of a parent; `None` for the root, which has none.
 fn absolute_of(table: &Table, parent: Option<u64>) -> Option<&Text>
     ensures { option_copied result ≡ above_url table.now.rows parent }
 {
@@ -217,7 +220,7 @@ fn absolute_of(table: &Table, parent: Option<u64>) -> Option<&Text>
     }
 }
 
-/// The runner of an instance's program.
+/// The runner that an instance's declaration names. `Err` where memory runs out.
 fn runner_at<V: View>(view: &V, inc: u64) -> Result<Option<Name>, Memory>
     ensures { let decl = decl_of (V.rows view.now) inc in
         IfOk result (λ runner. runner ≡ option_and_then (λ d. d.runner) decl) }
@@ -228,7 +231,8 @@ fn runner_at<V: View>(view: &V, inc: u64) -> Result<Option<Name>, Memory>
     }
 }
 
-/// The children that start together with an instance.
+/// The children that start together with an instance, in the order of its declaration. `Err` where
+/// memory runs out.
 fn eager_at<V: View>(alloc: Global, view: &V, inc: u64) -> Result<List<u64>, Memory>
     ensures { let decl = decl_of (V.rows view.now) inc in
         IfOk result (λ eager. eager ≡ eager_by (V.rows view.now) inc decl) }

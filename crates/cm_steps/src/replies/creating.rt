@@ -40,7 +40,7 @@ pub fn create_answer(
     Ok(answer_of(may))
 }
 
-/// What it comes to, by whether the child may be created.
+/// What a create comes to, by whether the child may be created.
 fn answer_of(may: MayCreate) -> CreateAnswer
     ensures { IsAnswerOf may result }
 {

@@ -30,7 +30,7 @@ pub fn found(alloc: Global, table: &Table, moniker: &Moniker) -> Result<Reply, M
     }
 }
 
-/// Where the moniker leads, by a counter of its own.
+/// Where the moniker leads, with a step counter that nobody reads.
 fn located<L: Ledger>(table: &Table, moniker: &Moniker, blank: Blank) -> Located
     requires name { blank.name ≡ L.name }
     requires parts { blank.parts ≡ L.parts }
@@ -61,7 +61,7 @@ fn missing(
     Err(Memory)
 }
 
-/// What is said where nothing stands behind these names.
+/// What is said where nothing stands after these names.
 fn not_found(alloc: Global, prefix: &[Shared<ChildName>]) -> Result<Reply, Memory>
     ensures { IfOk result (λ told. told ≡ reply.NotFound (record { parts = prefix.now })) }
 {
@@ -69,7 +69,8 @@ fn not_found(alloc: Global, prefix: &[Shared<ChildName>]) -> Result<Reply, Memor
     Ok(Reply::NotFound(Moniker { parts }))
 }
 
-/// What is said where an instance isn't resolved, and is needed so.
+/// The reply where an instance isn't resolved and has to be: `Need`, or `Shut` where it won't be any
+/// more.
 pub fn unresolved<V: View>(view: &V, inc: u64) -> Reply
     ensures { result ≡
         (if is_closed (V.rows view.now) inc then Reply.Shut inc else Reply.Need inc) }

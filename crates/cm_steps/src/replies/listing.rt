@@ -50,7 +50,7 @@ fn has_collection<V: View>(view: &V, inc: u64, coll: &Name) -> bool
     }
 }
 
-/// The collection of that name.
+/// The collection of this name in a declaration, if it has one.
 pub fn collection<'a>(decl: &'a Decl, coll: &Name) -> Option<&'a Collection>
     ensures { option_copied result ≡ collection_of decl.now coll.now }
 {

@@ -20,7 +20,8 @@ pub enum PurgeAnswer {
     Removes(List<Lost>),
 }
 
-/// What a purge comes to.
+/// What a purge comes to, read of a tree that stays as it is: [`crate::Realm::purge`] takes the step.
+/// `Err` where memory runs out.
 pub fn purge_answer(alloc: Global, table: &Table, inc: u64) -> Result<PurgeAnswer, Memory>
     ensures { IfOk result (AnswersPurge table.now.rows inc) }
 {
@@ -31,7 +32,7 @@ pub fn purge_answer(alloc: Global, table: &Table, inc: u64) -> Result<PurgeAnswe
     Ok(PurgeAnswer::Removes(lost))
 }
 
-/// Whether an instance lives.
+/// Whether the tree has an instance with this incarnation.
 fn is_live<V: View>(view: &V, inc: u64) -> bool
     ensures { result ≡ is_live (V.rows view.now) inc }
 {
@@ -46,6 +47,7 @@ impl Reportable for Lost {
 
     ghost told_of = { lost_row };
 
+    /// Each row at and below the purged one is told, with its moniker.
     fn told(alloc: Global, table: &Table, inc: u64) -> Result<Option<Lost>, Memory> {
         let moniker = moniker(alloc, table, inc)?;
         Ok(Some(Lost { inc, moniker }))

@@ -31,7 +31,8 @@ fn reaped<V: View>(alloc: Global, view: &V, inc: u64) -> Result<List<u64>, Memor
     }
 }
 
-/// The same of an instance that lives.
+/// What a reap of an instance that lives names: it alone where it is doomed, else its children that
+/// are.
 fn reaped_by<V: View>(alloc: Global, view: &V, inc: u64, doomed: bool) -> Result<List<u64>, Memory>
     ensures { IfOk result (λ incs. incs
         ≡ (if doomed then inc ∷ [] else spec.doomed_children (V.rows view.now) inc)) }
@@ -42,7 +43,7 @@ fn reaped_by<V: View>(alloc: Global, view: &V, inc: u64, doomed: bool) -> Result
     doomed_children(alloc, view, inc)
 }
 
-/// The list of one number.
+/// The list of this one number. `Err` where memory runs out.
 fn alone(alloc: Global, inc: u64) -> Result<List<u64>, Memory>
     ensures { IfOk result (λ incs. incs ≡ inc ∷ []) }
 {

@@ -51,6 +51,7 @@ fn shown_row(alloc: Global, table: &Table, inc: u64, facts: Facts) -> Result<Rep
     Ok(Reply::Shown(look))
 }
 
+/// The reply's look at a row with these facts, this URL as declared, and whether it is resolved.
 fn look(inc: u64, facts: Facts, url: Text, resolved: bool) -> Look
     ensures { (r : Row) → r.inc ≡ inc → facts ≡ facts_of r → url ≡ r.url
         → resolved ≡ is_some r.decl → result ≡ look_at r }

@@ -32,6 +32,7 @@ impl Reportable for SurveyRow {
 
     ghost told_of = { surveyed_row };
 
+    /// A row is told unless it is gone.
     fn told(alloc: Global, table: &Table, inc: u64) -> Result<Option<SurveyRow>, Memory> {
         if is_gone(table, inc) {
             return Ok(None);
@@ -70,7 +71,7 @@ fn paths<V: View>(alloc: Global, view: &V, inc: u64) -> Result<List<CapPath>, Me
     }
 }
 
-/// The paths of these uses.
+/// Copies of the paths of these uses. `Err` where memory runs out.
 fn paths_of(alloc: Global, uses: &[Usage]) -> Result<List<CapPath>, Memory>
     ensures { IfOk result (λ paths. paths ≡ map (λ u. u.path) uses.now) }
 {

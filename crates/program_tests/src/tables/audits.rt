@@ -1,6 +1,6 @@
 //! Journals that are audited, as `run --journal` writes them and with one thing changed.
 
-/// The journal of a route, whole and cut; with another reply, number or caller; with nothing behind the
+/// The journal of a route, whole and cut; with another reply, number or caller; with nothing after the
 /// root's line; and texts that are no journal.
 pub const AUDITS: &str = "\
     == audit\n\

@@ -1,7 +1,7 @@
 //! Gates that fail, decline, or have no room to note what they are asked.
 
 /// Scripts over gates with a plan. Of two lanes that start one instance, one does, and the other
-/// joins it or comes behind; where the launch fails, who comes behind begins a start of its own.
+/// joins it or comes after; where the launch fails, who comes after begins a start of its own.
 pub const GATES: &str = "\
     == run\n\
     failing 0 5\n\

@@ -1,7 +1,7 @@
 //! Whole histories, entry by entry, as the journal writes them.
 
 /// Shutdowns, where clients stop first and weak offers don't count, in one of them a new child that was
-/// offered something, and another that wasn't behind all these; a shutdown where a child in a collection
+/// offered something, and another that wasn't after all these; a shutdown where a child in a collection
 /// is kept; what goes when an instance stops, and nothing at the next stop; a started child that is
 /// destroyed.
 pub const STOPS: &str = "\

@@ -1,7 +1,7 @@
 //! Sources and sinks that fail, or that move few bytes at once.
 
 /// A script that is answered, with sources and sinks that fail or move few bytes at once: of its 613
-/// bytes 100 are read at once, so that the eighth read comes behind all. Then no script: where the
+/// bytes 100 are read at once, so that the eighth read comes after all. Then no script: where the
 /// line on the error stream is lost, the status still tells of it.
 pub const OUTSIDE: &str = "\
     == run\n\

@@ -1,7 +1,7 @@
 //! Sessions over the links of a door in memory.
 
 /// Lines by one byte, sides that fail, lines that are too long or no text, doors that fail at once, at the
-/// first accept and behind a session, or that close early; manifests that gates have, and one that they
+/// first accept and after a session, or that close early; manifests that gates have, and one that they
 /// fail to give; words that serve nothing.
 pub const SERVING: &str = "\
     == $serve$\n\
