@@ -44,8 +44,12 @@ class Places:
         self.words = {crate: words_of(TOP / "crates" / crate / "src") for crate in self.crates}
 
     def is_made(self, crate, name):
-        """Whether a name is of the sources, or of a type and a trait behind it, or the prover's own."""
+        """Whether a name is of the sources, or of a type and a trait behind it, or the prover's own.
+
+        A variant of a type that reaches itself through a pointer is the prover's with a prime behind it.
+        """
         words = self.words[crate]
+        name = name.removesuffix("'")
         pairs = (name[:n] in words and name[n:] in words for n in range(1, len(name)))
         return name in words or name in MADE or name in ("declared", "laws") or any(pairs)
 

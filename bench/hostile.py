@@ -2,11 +2,14 @@
 """Prints what realms cost that are as bad as the limits let them be, at two sizes each.
 
 A realm that is filled until it is refused, a history filled to its last entry, chains of instances, a
-name of 255 bytes below each of many parents, names that differ in their last bytes alone, sections with as
-many rows as they may have, and a child that is created and destroyed again and again. The columns are those
-of bench/scale.py, whose options these are, and behind them how often the cost of a command at the smaller
-size goes into that at the larger one: 1.0 where the work grows with what it goes over. Where one command
-goes over the whole realm, each instance or row counts as one.
+manifest with itself as an eager child, once and twice, offers from the parent through many levels, siblings
+that are each given something of the one before, a name of 255 bytes below each of many parents, names that
+differ in their last bytes alone, sections with as many rows as they may have, a child that is created and
+destroyed again and again, and a wide realm that is told again and again. The columns are those of
+bench/scale.py, whose options these are, and behind them how often the cost of a command at the smaller size
+goes into that at the larger one: 1.0 where the work grows with what it goes over. Where one command goes
+over the whole realm, each instance, row or level counts as one. A manifest with itself as an eager child
+fills the realm, so it has one size.
 
 Usage: bench/hostile.py [--instructions] [--seconds N] [--only WORD] [PROGRAM [OTHER]]
 """
@@ -17,6 +20,8 @@ from scale import PACKAGE, Case, cost, manifest, shown
 LONG = 255
 LEAF = '{"program":{"runner":"gen"}}'
 COLLECTION = '{"collections":[{"name":"k","durability":"transient"}]}'
+EXPOSING = '{"capabilities":[{"protocol":"p"}],"expose":[{"protocol":"p","from":"self"}]}'
+EAGER = '{"name":"%s","url":"#meta/%s.cm","startup":"eager"}'
 
 
 def root(text, *others):
@@ -62,6 +67,70 @@ def chain(size):
     started = text + f"0 start {last}\n"
     yield Case("survey a chain", size, started + "0 survey .\n", started, commands=size)
     yield Case("shut a chain down", size, started + "0 shutdown .\n", started, commands=size)
+
+
+def itself(size):
+    """A manifest with itself as an eager child: a start fills the realm with one chain."""
+    again = f'{{"children":[{EAGER % ("c", "a")}],"program":{{"runner":"gen"}}}}'
+    text = root(again, ("a", again))
+    started = text + "0 start .\n"
+    yield Case("itself: start", size, started, text, commands=size)
+    yield Case("itself: shutdown", size, started + "0 shutdown .\n", started, commands=size)
+    text = root(COLLECTION, ("a", again)) + "0 start .\n0 create . k c #meta/a.cm\n0 start k:c\n"
+    yield Case("itself: destroy", size, text + "0 destroy k:c\n", text, commands=size)
+
+
+def itself_twice(size):
+    """A manifest with itself as two eager children: a start fills the realm."""
+    again = f'{{"children":[{EAGER % ("c", "a")},{EAGER % ("d", "a")}],"program":{{"runner":"gen"}}}}'
+    text = root(again, ("a", again))
+    started = text + "0 start .\n"
+    yield Case("itself twice: start", size, started, text, commands=size)
+    yield Case("itself twice: shutdown", size, started + "0 shutdown .\n", started, commands=size)
+
+
+def long_monikers(size):
+    """Eager children one below the other, most of whose monikers are longer than one that is read may be."""
+    below = f'{{"children":[{EAGER % ("n" * 20, "%d")}],"program":{{"runner":"gen"}}}}'
+    others = [(f"{it}", below % (it + 1)) for it in range(size)] + [(f"{size}", LEAF)]
+    started = root(below % 0, *others) + "0 start .\n"
+    yield Case("survey long monikers", size, started + "0 survey .\n", started, commands=size)
+    yield Case("doctor of long monikers", size, started + "0 doctor .\n", started, commands=size)
+
+
+def offered_on(size):
+    """What the parent offers is offered on by each level of a full chain, and used at one of them."""
+    offer = '"offer":[{"protocol":"p","from":"parent","to":"#c"}]'
+    text = f'{{"children":[{EAGER % ("c", "root")}],{offer},"use":[{{"protocol":"p"}}]}}'
+    text = manifest("root", text) + f"builtin protocol p\nroot {PACKAGE}root.cm\n0 start .\n"
+    lines = f"0 route @{size} /svc/p\n" * 4
+    yield Case("route through levels", size, text + lines, text, commands=4 * size)
+
+
+def siblings(size):
+    """Children that are each given something of the one before: created, shut down, destroyed in turns."""
+    text = root(COLLECTION.replace("}]", ',"allowed_offers":"static_and_dynamic"}]'), ("y", EXPOSING))
+    text += "0 start .\n"
+    given = "0 create . k c%d #meta/y.cm + protocol p #k:c%d as=q\n"
+    made = text + "0 create . k c0 #meta/y.cm\n" + "".join(given % (it, it - 1) for it in range(1, size))
+    yield Case("create siblings given", size, made, text, commands=size)
+    made += "".join(f"0 start k:c{it}\n" for it in range(size))
+    yield Case("shut siblings down", size, made + "0 shutdown .\n", made, commands=size)
+    chosen = [it * 7919 % size for it in range(0, size, 8)]
+    lines = "".join(f"0 destroy k:c{it}\n" for it in chosen)
+    yield Case("destroy among siblings", size, made + lines, made, commands=len(chosen))
+    rings = made + "0 destroy k:c0\n"
+    refused = given % (0, size - 1) * 20
+    yield Case("rings of siblings", size, rings + refused, rings, commands=20 * size)
+
+
+def wide(times):
+    """A wide realm is told again and again: what is kept of each reply shows in the megabytes."""
+    text = root(COLLECTION) + "0 start .\n"
+    text += "".join(f"0 create . k c{it} #meta/x.cm\n" for it in range(65535))
+    for command in ("survey .", "list . k", "doctor ."):
+        lines = f"0 {command}\n" * times
+        yield Case(f"wide: {command}", times, text + lines, text, commands=65535 * times)
 
 
 def namesakes(size):
@@ -111,10 +180,16 @@ KINDS = (
     (refused_creations, (1000, 8000)),
     (full_history, (524288, 4194304)),
     (chain, (250, 2000)),
+    (itself, (65536,)),
+    (itself_twice, (65536,)),
+    (long_monikers, (250, 2000)),
+    (offered_on, (512, 4096)),
+    (siblings, (8000, 64000)),
     (namesakes, (1000, 8000)),
     (alike, (1000, 8000)),
     (rows, (2048, 16384)),
     (again, (12500, 100000)),
+    (wide, (5, 50)),
 )
 
 

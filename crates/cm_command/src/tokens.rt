@@ -41,8 +41,8 @@ use cm_names::grammar::bad_place;
 use cm_names::name::{begins, continues};
 use cm_names::url::is_url_byte;
 use cm_names::{
-    CapPath, ChildName, List, Memory, Moniker, MonikerFault, Name, NameFault, PathFault, Shared,
-    SubDir, Text,
+    CapPath, Chain, ChildName, List, Memory, Moniker, MonikerFault, Name, NameFault, PathFault,
+    Shared, SubDir, Text,
 };
 use cm_world::Target;
 use std::alloc::Global;
@@ -488,7 +488,9 @@ pub fn read_moniker(alloc: Global, word: &[u8]) -> Result<Moniker, WordFault>
         return judge_moniker(alloc, word);
     }
     match children_in(alloc, behind_slash(word))? {
-        Some(parts) => Ok(Moniker { parts }),
+        Some(parts) => Ok(Moniker {
+            parts: Chain::from_list(parts),
+        }),
         None => judge_moniker(alloc, word),
     }
 }

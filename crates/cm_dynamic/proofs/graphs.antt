@@ -4,3 +4,4 @@ pub mod Further
 pub mod Named
 pub mod Leading
 pub mod Walking
+pub mod Unwanted

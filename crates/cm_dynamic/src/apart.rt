@@ -81,7 +81,7 @@ pub(crate) fn binds_created(dependency: Dependency, from: &Origin) -> bool
 }
 
 /// Whether the dependency is strong.
-fn is_strong(dependency: Dependency) -> bool
+pub(crate) fn is_strong(dependency: Dependency) -> bool
     ensures { result ≡ passes_strong dependency }
 {
     dependency == Dependency::Strong

@@ -2,16 +2,18 @@
 //!
 //! Its name is that of no child yet, so a ring that it closes leads from it over children of
 //! collections back to it. They are looked for from the new child alone, each once: where none of
-//! them comes from a child of its name, there is no ring, and no realm graph has to be made.
+//! them comes from a child of its name, there is no ring, and no realm graph has to be made. They
+//! aren't looked for either where nothing that was given comes from a child of its name.
 
-ghost use Rattle.std.specs.Prelude.{◌≡◌, ℕ, Some, IsTrue, IfOk, OnOk};
+ghost use Rattle.std.specs.Prelude.{◌≡◌, ℕ, Some, not, IsTrue, IfOk, OnOk};
 ghost use Rattle.std.specs.List.{list_all};
 ghost use Rattle.cm_decl.specs.Same.{same_child};
+ghost use Rattle.cm_world.specs.RowsInside.{comes_from, is_child_named, wants_none};
 ghost use Rattle.cm_walk.specs.Ahead.{is_in_set};
 ghost use Rattle.cm_dynamic.specs.Apart as apart;
 ghost use Rattle.cm_dynamic.specs.Onward as onward;
 
-use crate::apart::{are_declared_plain, binds_created};
+use crate::apart::{are_declared_plain, binds_created, is_strong};
 use cm_decl::{Decl, Give, Origin};
 use cm_names::{ChildName, Memory};
 use cm_world::View;
@@ -38,7 +40,45 @@ pub(crate) fn is_onward<V: View>(
     if !are_declared_plain(decl) {
         return Ok(false);
     }
+    if is_unwanted(view, parent, name, gives) {
+        return Ok(true);
+    }
     leads_onward(alloc, view, parent, name, gives)
+}
+
+/// Whether nothing that was given to the new child, or to others, comes strongly from a child of
+/// its name. `false` says nothing.
+fn is_unwanted<V: View>(view: &V, parent: u64, name: &ChildName, gives: &[Give]) -> bool
+    ensures { IsTrue result → onward.IsOnward (V.rows view.now) parent name.now gives.now }
+{
+    if view.is_wanted(name) {
+        return false;
+    }
+    are_of_others(gives, name)
+}
+
+/// Whether none of these offers comes strongly from a child of that name.
+fn are_of_others(gives: &[Give], name: &ChildName) -> bool
+    ensures { result ≡ wants_none name.now gives.now }
+{
+    gives.iter().all(|give| is_of_other(give, name))
+}
+
+/// Whether the offer doesn't come strongly from a child of that name.
+fn is_of_other(give: &Give, name: &ChildName) -> bool
+    ensures { result ≡ not (comes_from name.now give.now) }
+{
+    !(is_strong(give.dependency) && is_from(&give.from, name))
+}
+
+/// Whether the source is a child of that name.
+fn is_from(from: &Origin, name: &ChildName) -> bool
+    ensures { result ≡ is_child_named name.now from.now }
+{
+    match from {
+        Origin::Child(child) => is_same(child, name),
+        _ => false,
+    }
 }
 
 /// Whether nothing that the new child comes from is a child of its name. `false` says nothing.

@@ -39,18 +39,27 @@ pub record IsMissedAt {F : Type 0} (refused : F → List ℕ → ErrorKind → T
   pub refuses : refused folder place kind
   pub missing : IsMissing kind
 
+-- looking at a place of a folder failed: no file was opened there, for another reason than that there is
+-- none; or one was opened, of which it isn't known that it could be read
+pub data FailsAt {F File : Type 0} (opened : F → List ℕ → File → Type 0)
+    (refused : F → List ℕ → ErrorKind → Type 0) (folder : F) (place : List ℕ) : Type 0 where
+  not_opened : (kind : ErrorKind) → refused folder place kind → (IsMissing kind → ⊥)
+      → FailsAt opened refused folder place
+  not_read : (file : File) → opened folder place file → FailsAt opened refused folder place
+
 -- this holds of the place where the manifest of a fetch is looked for
 pub record AtPlaceOf (what : Fetch) (There : List ℕ → Type 0) : Type 0 where
   pub place : List ℕ
   pub looks : place_of_fetch what ≡ Some place
   pub there : There place
 
--- what a fetch found at a place of a folder: what was read there, that there is no file, or a failure
+-- what was found at a place of a folder is what was read of the file that was opened there, nothing is there
+-- only where the opening told so, and looking there fails only where the opening failed or a file was opened
 abbrev pub FindsAt : {F File : Type 0} → (F → List ℕ → File → Type 0) → (F → List ℕ → ErrorKind → Type 0) →
     (File → Option (List ℕ)) → F → List ℕ → Fetched → Type 0
 FindsAt opened refused left folder place (fetched.Found bytes) = IsReadAt opened left folder place bytes
 FindsAt opened refused left folder place fetched.Absent = IsMissedAt refused folder place
-FindsAt opened refused left folder place fetched.Failed = Unit {0}
+FindsAt opened refused left folder place fetched.Failed = FailsAt opened refused folder place
 FindsAt opened refused left folder place fetched.Memory = Unit {0}
 
 -- what a fetch found in a folder: the same at the place of its URL; there is nothing where the URL has
@@ -61,5 +70,6 @@ FindsFile opened refused left folder what (fetched.Found bytes) =
     AtPlaceOf what (λ place. IsReadAt opened left folder place bytes)
 FindsFile opened refused left folder what fetched.Absent =
     (place_of_fetch what ≡ None) ⊎ AtPlaceOf what (λ place. IsMissedAt refused folder place)
-FindsFile opened refused left folder what fetched.Failed = Unit {0}
+FindsFile opened refused left folder what fetched.Failed =
+    AtPlaceOf what (λ place. FailsAt opened refused folder place)
 FindsFile opened refused left folder what fetched.Memory = Unit {0}

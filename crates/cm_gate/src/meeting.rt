@@ -1,10 +1,11 @@
 //! Gates of two callers that have to meet.
 
-ghost use Rattle.std.specs.Prelude.{◌≡◌, ◌⊎◌, ◌<◌, ◌≤◌, ◌^◌, IfOk};
+ghost use Rattle.std.specs.Prelude.{◌≡◌, ◌⊎◌, ◌<◌, ◌≤◌, ◌^◌, IfOk, IsTrue};
 ghost use Rattle.cm_io.specs.CountsInside.{count_after};
 ghost use Rattle.cm_io.specs.Outside.{Rose};
 ghost use Rattle.cm_gate.specs.Failures.{is_failed_fetch};
 ghost use Rattle.cm_gate.specs.Manifests.{manifest_at};
+ghost use Rattle.cm_gate.specs.Meeting.{FindsMet};
 
 use crate::count::FaultCount;
 use crate::manifests::find_manifest;
@@ -25,6 +26,41 @@ const LOOKS: u32 = 100_000_000;
 /// After so many looks a fetch lets other threads run.
 const LOOKS_IN_A_ROW: u32 = 1_000;
 
+/// A word that one caller raises and another looks at. It says nothing of when it is up.
+pub trait Flag {
+    /// It was raised.
+    ghost raised: { Self → Type 0 };
+
+    /// It was looked at, and was up.
+    ghost seen: { Self → Type 0 };
+
+    /// Raises it.
+    fn raise(&self)
+        ensures { raised self.now };
+
+    /// Whether it is up.
+    fn is_up(&self) -> bool
+        ensures { IsTrue result → seen self.now };
+}
+
+impl Flag for AtomicBool {
+    ghost use Rattle.std.specs.Prelude.{⊤};
+
+    ghost raised = { λ _. ⊤ };
+
+    ghost seen = { λ _. ⊤ };
+
+    /// Stores `true` where all threads see it.
+    fn raise(&self) {
+        self.store(true, Ordering::SeqCst);
+    }
+
+    /// Whether some thread has stored `true`.
+    fn is_up(&self) -> bool {
+        self.load(Ordering::SeqCst)
+    }
+}
+
 /// The gates of one of two callers that have to meet, for tests.
 ///
 /// The two share two words. A fetch of either raises its own word, and then looks at the other's
@@ -32,32 +68,38 @@ const LOOKS_IN_A_ROW: u32 = 1_000;
 /// callers of which one waits for the other's fetch to end, as at a lock that is held meanwhile,
 /// can't both fetch. Programs are taken to run and to stop as they are asked to. They tell no log.
 ///
-/// Contracts see the manifests and how often these gates failed.
+/// Contracts see the two words, the manifests, and how often these gates failed.
 #[derive(Drop)]
-pub struct MeetingGates {
+pub struct MeetingGates<W = AtomicBool> {
     manifests: List<Manifest>,
-    own: Arc<AtomicBool, Global>,
-    other: Arc<AtomicBool, Global>,
+    own: Arc<W, Global>,
+    other: Arc<W, Global>,
     faults: FaultCount,
 }
 
-impl Model for MeetingGates {
+impl<W> Model for MeetingGates<W> {
+    ghost use Rattle.std.specs.Arc.{arc_value};
     ghost use Rattle.cm_gate.specs.Meeting.{MeetingView};
 
-    ghost Value = { MeetingView };
+    ghost Value = { MeetingView W };
 
-    ghost view = { λ g. record { manifests = g.manifests; faults = g.faults } };
+    ghost view = { λ g. record {
+      own = arc_value g.own;
+      other = arc_value g.other;
+      manifests = g.manifests;
+      faults = g.faults;
+    } };
 }
 
-impl MeetingGates {
+impl MeetingGates<AtomicBool> {
     /// The gates of two callers, neither of which has fetched yet. Each knows the manifests.
     /// `Memory` where memory ran out.
     pub fn pair(
         alloc: Global,
         manifests: List<Manifest>,
     ) -> Result<(MeetingGates, MeetingGates), Memory>
-        ensures { IfOk result (λ pair. (pair.0 ≡ record { manifests = manifests; faults = 0 })
-            × (pair.1 ≡ record { manifests = manifests; faults = 0 })) }
+        ensures first { IfOk result (λ pair. (pair.0.manifests ≡ manifests) × (pair.0.faults ≡ 0)) }
+        ensures second { IfOk result (λ pair. (pair.1.manifests ≡ manifests) × (pair.1.faults ≡ 0)) }
     {
         let first = Arc::new(alloc, AtomicBool::new(false))?;
         let second = Arc::new(alloc, AtomicBool::new(false))?;
@@ -75,7 +117,9 @@ impl MeetingGates {
         };
         Ok((one, other))
     }
+}
 
+impl<W: Flag + Drop> MeetingGates<W> {
     /// How often they failed, up to 2^64 - 1.
     pub fn faults(&self) -> u64
         ensures { result ≡ self.now.faults }
@@ -84,10 +128,12 @@ impl MeetingGates {
     }
 
     /// Raises the own word, and waits for the other. Tells whether that was raised.
-    fn meets(&self) -> bool {
-        self.own.store(true, Ordering::SeqCst);
+    fn meets(&self) -> bool
+        ensures { IsTrue result → W.raised self.now.own × W.seen self.now.other }
+    {
+        self.own.raise();
         for look in 0..LOOKS {
-            if self.other.load(Ordering::SeqCst) {
+            if self.other.is_up() {
                 return true;
             }
             if look % LOOKS_IN_A_ROW == 0 {
@@ -99,8 +145,9 @@ impl MeetingGates {
 
     /// What a fetch finds, once the two have met.
     fn find(&self, what: &Fetch) -> Fetched
-        ensures { (result ≡ manifest_at what.now.url self.now.manifests)
+        ensures answer { (result ≡ manifest_at what.now.url self.now.manifests)
             ⊎ (result ≡ Fetched.Failed) ⊎ (result ≡ Fetched.Memory) }
+        ensures met { FindsMet (W.raised self.now.own × W.seen self.now.other) result }
     {
         if !self.meets() {
             return Fetched::Failed;
@@ -112,7 +159,7 @@ impl MeetingGates {
     }
 }
 
-impl Gates for MeetingGates {
+impl<W: Flag + Drop> Gates for MeetingGates<W> {
     ghost use Rattle.std.specs.Prelude.{None};
 
     ghost log = { λ _. None };
@@ -138,6 +185,7 @@ impl Gates for MeetingGates {
         } }
         ensures answer { (result ≡ manifest_at what.now.url self.old.manifests)
             ⊎ (result ≡ Fetched.Failed) ⊎ (result ≡ Fetched.Memory) }
+        ensures met { FindsMet (W.raised self.old.own × W.seen self.old.other) result }
     {
         let answer = self.find(what);
         self.faults.count(answer.is_failed());

@@ -74,6 +74,7 @@ fn unopened(error: &io::Error) -> Fetched
     ensures memory { error_kind error.now ≡ ErrorKind.OutOfMemory → result ≡ Fetched.Memory }
     ensures failed { (result ≡ Fetched.Failed) ⊎ (IsMissing (error_kind error.now))
         ⊎ (error_kind error.now ≡ ErrorKind.OutOfMemory) }
+    ensures there { result ≡ Fetched.Failed → IsMissing (error_kind error.now) → ⊥ }
 {
     match error.kind() {
         ErrorKind::NotFound | ErrorKind::NotADirectory => Fetched::Absent,

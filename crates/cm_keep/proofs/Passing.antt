@@ -1,12 +1,14 @@
 -- Lemmas on texts that are handed over in pieces.
-use Rattle.std.proofs.Common.{◌≡◌, ◌<◌, ℕ, ◌+◌, suc, List, [], ◌∷◌, ◌++◌, length, drop, get_or, Option}
+use Rattle.std.proofs.Common.{◌≡◌, ◌⊎◌, inl, inr, refl, ◌<◌, ℕ, ◌+◌, suc, List, [], ◌∷◌, ◌++◌, length, drop, get_or, Option}
 use Rattle.std.proofs.Common.{sym, ap, ◌∙◌, subst, append_assoc, append-nil, drop-cons, add-one}
 use Rattle.std.proofs.KnownBytes.{Appends-trans}
 use Rattle.std.specs.Io.KnownBytes.{Appends}
 use Rattle.cm_reply.specs.Lists.{TextBytes}
 use Rattle.cm_world.specs.declared.reply.Entry.{Entry}
 use Rattle.cm_reply.specs.Journal.{line, entry_text, entries_text}
-use Rattle.cm_keep.specs.Keeping.{Passes}
+use Rattle.std.specs.Prelude.{Err}
+use Rattle.cm_keep.specs.declared.keep.KeepFault.TheVariants as fault
+use Rattle.cm_keep.specs.Keeping.{IsLeft, Passes}
 
 -- a text comes, and with it what is held back is handed over
 pub leaves : (a b : Option TextBytes) (held more new text : TextBytes)
@@ -48,3 +50,9 @@ pub next_line : (es : List Entry) (i : ℕ) (e : Entry) → i < length es → ge
 next_line es i e inside at =
     ap (entries_text (i + 1)) (drop-cons es i e inside ∙ ap (λ (x : Entry). x ∷ drop (suc i) es) at
     ∙ ap (λ (n : ℕ). e ∷ drop n es) (sym (add-one i)))
+
+-- what couldn't be put into its place was let go, or all of it is held as it was
+pub held_whole : {C : Type 0} (a b c : Option TextBytes) (text : TextBytes)
+    → Appends a b text → C ⊎ (c ≡ b) → IsLeft C a c text (Err fault.Failed)
+held_whole a b c text handed (inl cleared) = inl cleared
+held_whole a b c text handed (inr same) = inr (refl, subst (λ d. Appends a d text) (sym same) handed)

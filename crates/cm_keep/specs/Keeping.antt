@@ -1,6 +1,6 @@
 -- Inside.
 -- The journal of a realm that `serve` keeps in a file, and what it means that it is kept.
-use Rattle.std.specs.Prelude.{◌≡◌, ℕ, List, [], ◌∷◌, ◌++◌, Bool, true, false}
+use Rattle.std.specs.Prelude.{◌≡◌, ◌⊎◌, ℕ, List, [], ◌∷◌, ◌++◌, Bool, true, false}
 use Rattle.std.specs.Prelude.{Option, Some, None, Result, Ok, Err}
 use Rattle.std.specs.Io.KnownBytes.{Appends}
 use Rattle.cm_io.specs.Outside.{Rose}
@@ -39,6 +39,12 @@ PutsUp (Some text) (Some texts) new = new ≡ Some (texts ++ text ∷ [])
 -- this text was added to what had been handed over, and all of that was put into the journal's place
 abbrev pub IsKept : Option TextBytes → Option (List TextBytes) → Option (List TextBytes) → TextBytes → Type 0
 IsKept draft old new text = (whole : Option TextBytes) × Appends draft whole text × PutsUp whole old new
+
+-- what is held after the keeping of a text: nothing; or, where the keeper failed, all of it, which couldn't
+-- be put into the place
+abbrev pub IsLeft : Type 0 → Option TextBytes → Option TextBytes → TextBytes → Result (Unit {0}) KeepFault
+    → Type 0
+IsLeft cleared old new text result = cleared ⊎ ((result ≡ Err fault.Failed) × Appends old new text)
 
 -- ---- its pieces
 

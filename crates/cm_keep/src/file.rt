@@ -129,13 +129,15 @@ fn take_away<F: Files>(files: &F, path: &str) {
 }
 
 impl<F: Files + Drop> TextKeeper for FileKeeper<F> {
-    ghost use Rattle.std.specs.Prelude.{◌≡◌, None, true};
+    ghost use Rattle.std.specs.Prelude.{◌≡◌, None, false, true};
 
     ghost draft = { λ k. F.File.Write.contents k.file };
 
     ghost shown = { λ _. None };
 
     ghost pending = { λ k. k.is_pending ≡ true };
+
+    ghost cleared = { λ k. k.is_pending ≡ false };
 
     ghost faults = { λ k. k.faults };
 
@@ -154,7 +156,7 @@ impl<F: Files + Drop> TextKeeper for FileKeeper<F> {
     /// there. Tells whether that went well.
     fn show(&mut self) -> bool {
         if let Err(why) = self.file.sync_all() {
-            take_away(&self.files, self.beside.as_str());
+            self.give_up();
             self.fail(why);
             return false;
         }
@@ -175,6 +177,7 @@ impl<F: Files + Drop> TextKeeper for FileKeeper<F> {
     fn give_up(&mut self) {
         if self.is_pending {
             take_away(&self.files, self.beside.as_str());
+            self.is_pending = false;
         }
     }
 }

@@ -4,7 +4,7 @@ ghost use Rattle.std.specs.Prelude.{◌≡◌, [], IfOk, OnErr, OnOk, string_byt
 ghost use Rattle.std.specs.Io.KnownBytes.{Appends};
 ghost use Rattle.cm_reply.specs.Journal as journal;
 ghost use Rattle.cm_reply.specs.ListsInside.{GainsText};
-ghost use Rattle.cm_keep.specs.Keeping.{Caused, IsKept, Passes, kept_text, rooted};
+ghost use Rattle.cm_keep.specs.Keeping.{Caused, IsKept, IsLeft, Passes, kept_text, rooted};
 
 use crate::TextKeeper;
 use cm_names::{List, Memory, Text};
@@ -144,11 +144,13 @@ fn hand_journal<P: TextKeeper>(
     Ok(())
 }
 
+#[tactic(auto, using(crate::proofs::Passing::held_whole))]
 /// Keeps the journal of a realm of this root, above which nothing stood: hands it over in pieces, and has
 /// it put into its place.
 ///
 /// At `Ok` all of it stands there. At an `Err` what stood there before still does, and what was handed
-/// over is let go. It takes memory for one piece and one line.
+/// over is let go, unless it is the whole text, which couldn't be put into its place. It takes memory for
+/// one piece and one line.
 pub fn keep_journal<P: TextKeeper>(
     alloc: Global,
     keeper: &mut P,
@@ -159,6 +161,8 @@ pub fn keep_journal<P: TextKeeper>(
     ensures kept { OnOk result (IsKept (P.draft keeper.old) (P.shown keeper.old) (P.shown keeper.new)
         (kept_text root.now entries.now)) }
     ensures nothing { OnErr result (P.shown keeper.new ≡ P.shown keeper.old) }
+    ensures left { IsLeft (P.cleared keeper.new) (P.draft keeper.old) (P.draft keeper.new)
+        (kept_text root.now entries.now) result }
     ensures cause { Caused (P.faults keeper.old) (P.faults keeper.new) result }
 {
     if let Err(fault) = hand_journal(alloc, keeper, root, entries) {

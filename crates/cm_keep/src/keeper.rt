@@ -1,6 +1,6 @@
 //! A place for a text that is seen there as a whole or not at all.
 
-ghost use Rattle.std.specs.Prelude.{◌≡◌, false, true};
+ghost use Rattle.std.specs.Prelude.{◌≡◌, ◌⊎◌, false, true};
 ghost use Rattle.std.specs.Io.KnownBytes.{Appends};
 ghost use Rattle.cm_keep.specs.Keeping.{Counted, PutsUp};
 
@@ -18,6 +18,9 @@ pub trait TextKeeper: Drop {
     /// That this keeper has not put its text there yet: after that nothing more is handed over.
     ghost pending: { Self → Type 0 };
 
+    /// Nothing of what was handed over is held any more, but what stands in the place.
+    ghost cleared: { Self → Type 0 };
+
     /// How often it failed.
     ghost faults: { Self → ℕ };
 
@@ -31,15 +34,18 @@ pub trait TextKeeper: Drop {
         ensures cause { Counted (faults self.old) (faults self.new) result };
 
     /// Puts the text into the place. Whether it stands there now; where it failed, what stood there before
-    /// still does, and its count of faults rose.
+    /// still does, and its count of faults rose. Then the text was let go, or all of it is held still.
     fn show(&mut self) -> bool
         requires pending { pending self.old }
         ensures shown { result ≡ true → PutsUp (draft self.old) (shown self.old) (shown self.new) }
         ensures failed { result ≡ false → shown self.new ≡ shown self.old }
+        ensures cleared { result ≡ true → cleared self.new }
+        ensures held { result ≡ false → cleared self.new ⊎ (draft self.new ≡ draft self.old) }
         ensures cause { Counted (faults self.old) (faults self.new) result };
 
     /// Lets go of the bytes that were handed over. What stands in the place stays there.
     fn give_up(&mut self)
+        ensures cleared { cleared self.new }
         ensures shown { shown self.new ≡ shown self.old }
         ensures faults { faults self.new ≡ faults self.old };
 }

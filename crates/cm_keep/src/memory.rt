@@ -73,13 +73,15 @@ impl MemoryKeeper {
 }
 
 impl TextKeeper for MemoryKeeper {
-    ghost use Rattle.std.specs.Prelude.{◌≡◌, Some, true};
+    ghost use Rattle.std.specs.Prelude.{◌≡◌, [], Some, true};
 
     ghost draft = { λ k. Some k.draft.items };
 
     ghost shown = { λ k. Some k.shown };
 
     ghost pending = { λ k. k.is_pending ≡ true };
+
+    ghost cleared = { λ k. k.draft.items ≡ [] };
 
     ghost faults = { λ k. k.faults };
 

@@ -1,7 +1,7 @@
 //! The journal of a service: where it is to be kept, and its keeping.
 
 ghost use Rattle.std.specs.Prelude.{◌≡◌, IfOk, OnErr, OnOk};
-ghost use Rattle.cm_keep.specs.Keeping.{Caused, IsKept, kept_text};
+ghost use Rattle.cm_keep.specs.Keeping.{Caused, IsKept, IsLeft, kept_text};
 ghost use Rattle.cm_keep.specs.Service.{Plans};
 
 use crate::{FileKeeper, KeepFault, TextKeeper, fault_line, keep_journal};
@@ -99,6 +99,8 @@ pub fn keep_book<P: TextKeeper>(
     ensures kept { OnOk result (IsKept (P.draft keeper.old) (P.shown keeper.old) (P.shown keeper.new)
         (kept_text keeping.now.root book.now.entries)) }
     ensures nothing { OnErr result (P.shown keeper.new ≡ P.shown keeper.old) }
+    ensures left { IsLeft (P.cleared keeper.new) (P.draft keeper.old) (P.draft keeper.new)
+        (kept_text keeping.now.root book.now.entries) result }
     ensures cause { Caused (P.faults keeper.old) (P.faults keeper.new) result }
 {
     keep_journal(alloc, keeper, &keeping.root, book.entries())

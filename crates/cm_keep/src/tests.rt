@@ -87,6 +87,8 @@ fn keeps_nothing_of_what_fails(rt: HostRuntime) -> Result<(), Fail> {
         let kept = keep(rt.alloc(), &mut keeper, 9_000)?;
         let nothing = keeper.shown().is_empty();
         assert!(rt; kept == Err(KeepFault::Failed) && nothing && keeper.calls() == failing + 1);
+        // The last call is the one that puts the text into the place: then all of it is held.
+        assert!(rt; (keeper.held() == 0) == (failing < 4), "{failing}");
     }
     Ok(())
 }

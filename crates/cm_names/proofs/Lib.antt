@@ -1,3 +1,4 @@
+pub mod Ends
 pub mod prefixes
 pub mod texts
 pub mod sets

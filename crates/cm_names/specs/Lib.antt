@@ -1,6 +1,8 @@
 pub mod Name
 pub mod Path
 pub mod PathInside
+pub mod Chains
+pub mod ChainsInside
 pub mod Child
 pub mod Availability
 pub mod Prefixes

@@ -13,11 +13,11 @@ abbrev pub text_of_parts : List ChildName → List ℕ
 text_of_parts [] = codes "."
 text_of_parts (c ∷ cs) = join_with_byte 47 (map child_text (c ∷ cs))
 
--- how a moniker is written: `a/b`, or a dot for the root
+-- how a moniker is written
 abbrev pub moniker_text : Moniker → List ℕ
 moniker_text m = text_of_parts m.parts
 
--- the other way to write a moniker: with a slash before it, which alone stands for the root
+-- the same with a slash before it; a slash alone stands for the root
 abbrev pub text_from_root : List ChildName → List ℕ
 text_from_root [] = codes "/"
 text_from_root (c ∷ cs) = 47 ∷ text_of_parts (c ∷ cs)

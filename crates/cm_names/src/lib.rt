@@ -4,15 +4,17 @@
 //!
 //! Contracts see [`Text`] as the list of its bytes, [`List`] as the list of its items, a name or a
 //! path as the bytes of its text, and [`Shared`] as the value itself, so that definitions speak of
-//! plain lists and values.
+//! plain lists and values. So they see [`Chain`], whose copies and branches share their names.
 #![tactic(auto)]
 
 pub mod availability;
 pub mod boxed;
+pub mod chain;
 pub mod child;
 pub mod dependency;
 pub mod grammar;
 pub mod limits;
+mod link;
 pub mod list;
 pub mod memory;
 pub mod moniker;
@@ -27,6 +29,7 @@ pub mod url;
 
 pub use availability::Availability;
 pub use boxed::Boxed;
+pub use chain::Chain;
 pub use child::ChildName;
 pub use dependency::Dependency;
 pub use grammar::MonikerState;

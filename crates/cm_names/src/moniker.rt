@@ -13,7 +13,7 @@ ghost use Rattle.cm_names.specs.MonikerInside.{MonikerStartsWith};
 ghost use Rattle.cm_names.specs.Path.{parts_of};
 
 use crate::grammar::bad_place;
-use crate::{ChildName, List, MAX_PATH_BYTES, Memory, Name, NameFault, Plain, Shared, Text};
+use crate::{Chain, ChildName, List, MAX_PATH_BYTES, Memory, Name, NameFault, Plain, Shared, Text};
 use std::alloc::Global;
 use thiserror::Error;
 
@@ -25,7 +25,7 @@ use thiserror::Error;
 #[derive(Debug, Drop, Clone, PartialEq, Eq)]
 pub struct Moniker {
     /// The children's names, that of the root's child first. A copy of a moniker shares them.
-    pub parts: List<Shared<ChildName>>,
+    pub parts: Chain,
 }
 
 impl Plain for Moniker {
@@ -91,8 +91,9 @@ impl Moniker {
         if self.is_root() {
             return Text::from_str(alloc, ".");
         }
+        let parts = self.parts.items(alloc)?;
         let mut text = Text::new(alloc);
-        for (i, part) in self.parts.as_slice().iter().enumerate() {
+        for (i, part) in parts.iter().enumerate() {
             if i > 0 {
                 text.push_str("/")?;
             }
@@ -102,11 +103,11 @@ impl Moniker {
     }
 
     /// The root's moniker.
-    pub fn root(alloc: Global) -> Moniker
+    pub fn root(_alloc: Global) -> Moniker
         ensures { result ≡ record { parts = [] } }
     {
         Moniker {
-            parts: List::new(alloc),
+            parts: Chain::new(),
         }
     }
 
@@ -116,8 +117,7 @@ impl Moniker {
         ensures { IfOk result (λ child. child.parts ≡ self.now.parts ++ name ∷ []) }
     {
         let name = Shared::new(alloc, name)?;
-        let mut parts = List::from_vec(self.parts.as_slice().to_vec(alloc)?);
-        parts.push(name)?;
+        let parts = self.parts.with(alloc, name)?;
         Ok(Moniker { parts })
     }
 
@@ -126,7 +126,7 @@ impl Moniker {
     pub fn starts_with(&self, prefix: &Moniker) -> bool
         ensures { IsTrue result ↔ MonikerStartsWith self.now.parts prefix.now.parts }
     {
-        self.parts.as_slice().starts_with(prefix.parts.as_slice())
+        self.parts.starts_with(&prefix.parts)
     }
 
     /// Whether it is the root's.
@@ -212,7 +212,9 @@ fn read_whole(alloc: Global, text: &str) -> Result<Moniker, Memory>
         return Ok(Moniker::root(alloc));
     }
     let parts = read_parts(alloc, behind_slash(text))?;
-    Ok(Moniker { parts })
+    Ok(Moniker {
+        parts: Chain::from_list(parts),
+    })
 }
 
 /// Puts the text of a child's name at the end.

@@ -3,3 +3,6 @@ pub mod Leaving
 pub mod Kids
 pub mod Gathering
 pub mod Glancing
+pub mod Lists
+pub mod Clearing
+pub mod Owning

@@ -34,13 +34,17 @@ fn climb<V: View>(view: &V, inc: u64, found: Option<u64>) -> Upward
 }
 
 /// Among the instance and those above it the one nearest the root that is being shut down itself,
-/// or `None` where none is, or where it doesn't live.
+/// or `None` where none is, or where it doesn't live. It goes up only while one of those above is.
 pub(crate) fn outermost<V: View>(view: &V, inc: u64) -> Option<u64>
     ensures { result ≡ spec.outermost (V.rows view.now) inc }
 {
     let mut found = None;
     let mut at = Some(inc);
     'up: while let Some(here) = at {
+        let closing = view.closing_above(here);
+        if !closing {
+            return found;
+        }
         let further = climb(view, here, found);
         found = further.found;
         at = further.at;

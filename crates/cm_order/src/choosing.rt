@@ -4,19 +4,22 @@ ghost use Rattle.std.specs.Prelude.{◌≡◌, ◌&&◌, ◌↔◌, IsTrue, IfOk
 ghost use Rattle.cm_world.specs.Rows.{row_of, is_below as is_below_of};
 ghost use Rattle.cm_world.specs.Sound.{IsSound};
 ghost use Rattle.cm_world.specs.Step as step;
+ghost use Rattle.cm_order.specs.Plans.{IsPlan, AreKnown};
 ghost use Rattle.cm_order.specs.Picking.{MayBePicked};
-ghost use Rattle.cm_order.specs.Search.{IsFreeAt};
 ghost use Rattle.cm_order.specs.Ways as spec;
-ghost use Rattle.cm_order.specs.Ways.{IsFreeUpTo, IsNodeAt};
+ghost use Rattle.cm_order.specs.Ways.{IsFreeUpTo};
 
 use crate::above::outermost;
 use crate::below::all_shut;
+use crate::dependents::Dependents;
 use crate::glance::is_idle;
-use crate::level::Level;
+use crate::leading::{leads_own, leads_up};
+use crate::plan::DescentPlan;
 use cm_names::Memory;
 use cm_walk::above::is_below;
 use cm_world::View;
 use std::alloc::Global;
+use std::collections::BTreeMap;
 
 /// Whether a pick for the target may choose this instance.
 ///
@@ -25,14 +28,34 @@ use std::alloc::Global;
 /// stands at or below the outermost one that is being shut down, isn't shut, has no pending action
 /// and may stop. `Err` comes where memory runs out, and there alone.
 ///
-/// The level of each instance on the way up from this one to the outermost one is made once, with
-/// its graph, and of each child of these levels what stands below it is looked at, up to the first
-/// instance that isn't shut. [`pick_with`](crate::pick_with) is quicker, where it answers this very
-/// instance.
+/// It is what [`may_pick_with`] says where nothing is known of levels.
 pub fn may_pick<V: View>(alloc: Global, view: &V, target: u64, inc: u64) -> Result<bool, Memory>
     requires sound { IsSound (V.rows view.now) (V.next_inc view.now) }
     requires closing { IsTrue (step.may_close (V.rows view.now) target) }
     ensures { IfOk result (λ may. IsTrue may ↔ MayBePicked (V.rows view.now) target inc) }
+{
+    let mut plan = DescentPlan::new(alloc);
+    may_pick_with(alloc, view, &mut plan, target, inc)
+}
+
+/// [`may_pick`], with what is known of levels from the picks before.
+///
+/// The plan is as that of [`pick_with`](crate::pick_with), and a level that isn't known is looked at
+/// and kept. Where that says nothing of a node on the way up, the level is made with its graph, and of
+/// each child there what stands below it is looked at, up to the first instance that isn't shut.
+pub fn may_pick_with<V: View>(
+    alloc: Global,
+    view: &V,
+    plan: &mut DescentPlan,
+    target: u64,
+    inc: u64,
+) -> Result<bool, Memory>
+    requires sound { IsSound (V.rows view.now) (V.next_inc view.now) }
+    requires closing { IsTrue (step.may_close (V.rows view.now) target) }
+    requires plan { IsPlan (V.rows view.now) plan.old }
+    ensures may { IfOk result (λ may.
+        IsTrue may ↔ MayBePicked (V.rows view.now) target inc) }
+    ensures plan { IsPlan (V.rows view.now) plan.new }
 {
     let Some(top) = outermost(view, target) else {
         return Ok(false);
@@ -43,7 +66,7 @@ pub fn may_pick<V: View>(alloc: Global, view: &V, target: u64, inc: u64) -> Resu
     if all_shut(alloc, view, target)? {
         return Ok(false);
     }
-    is_free_up_to(alloc, view, top, inc)
+    is_free_up_to(alloc, view, &mut plan.levels, top, inc)
 }
 
 /// Whether a shutdown may work on the target: it doesn't live, or it or one above it is being shut
@@ -67,13 +90,22 @@ fn is_idle_below<V: View>(view: &V, top: u64, inc: u64) -> bool
 
 /// Whether at each level from the top down to the instance, which isn't shut, all that depends on the
 /// node that leads to it is shut.
-fn is_free_up_to<V: View>(alloc: Global, view: &V, top: u64, inc: u64) -> Result<bool, Memory>
+fn is_free_up_to<V: View>(
+    alloc: Global,
+    view: &V,
+    levels: &mut BTreeMap<u64, Dependents>,
+    top: u64,
+    inc: u64,
+) -> Result<bool, Memory>
     requires sound { IsSound (V.rows view.now) (V.next_inc view.now) }
     requires below { IsTrue (is_below_of (V.rows view.now) top inc) }
     requires idle { IsTrue (spec.is_idle (V.rows view.now) inc) }
-    ensures { IfOk result (λ free. IsTrue free ↔ IsFreeUpTo (V.rows view.now) top inc) }
+    requires levels { AreKnown (V.rows view.now) levels.old }
+    ensures free { IfOk result (λ free. IsTrue free ↔ IsFreeUpTo (V.rows view.now) top inc) }
+    ensures levels { AreKnown (V.rows view.now) levels.new }
 {
-    if !leads_at(alloc, view, inc, inc)? {
+    let mut kept = None;
+    if !leads_own(alloc, view, &mut kept, inc)? {
         return Ok(false);
     }
     let mut here = inc;
@@ -81,22 +113,12 @@ fn is_free_up_to<V: View>(alloc: Global, view: &V, top: u64, inc: u64) -> Result
         let Some(parent) = parent_of(view, here) else {
             unreachable!();
         };
-        if !leads_at(alloc, view, parent, here)? {
+        if !leads_up(alloc, view, levels, &mut kept, parent, here)? {
             return Ok(false);
         }
         here = parent;
     }
     Ok(true)
-}
-
-/// Whether a node at the level of an instance isn't shut, and all that depends on it is.
-fn leads_at<V: View>(alloc: Global, view: &V, own: u64, node: u64) -> Result<bool, Memory>
-    requires sound { IsSound (V.rows view.now) (V.next_inc view.now) }
-    requires node { IsNodeAt (V.rows view.now) own node }
-    ensures { IfOk result (λ leads. IsTrue leads ↔ IsFreeAt (V.rows view.now) own node) }
-{
-    let level = Level::of(alloc, view, own)?;
-    Ok(level.leads(view, node))
 }
 
 /// The parent of an instance, if it lives and isn't the root.

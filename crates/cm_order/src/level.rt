@@ -9,7 +9,7 @@ ghost use Rattle.cm_world.specs.Stopping.{IsFree};
 ghost use Rattle.cm_order.specs.Levels.{EachOfList, IsLevel, IsLevelGraph, IsMember, LeavesFree};
 ghost use Rattle.cm_order.specs.Levels.{MemberDepends};
 ghost use Rattle.cm_order.specs.Levels.{RowWould, has_member};
-ghost use Rattle.cm_order.specs.Search.{IsFreeAt, IsNextLeading};
+ghost use Rattle.cm_order.specs.Search.{IsFreeAt};
 
 use crate::members::{Member, dynamic, find_member, members_of};
 use cm_decl::Node;
@@ -77,22 +77,6 @@ impl Level {
             return false;
         }
         self.is_free(view, member)
-    }
-
-    /// The first child behind this one, or of all children, that leads.
-    pub(crate) fn next_leading<V: View>(&self, view: &V, behind: Option<u64>) -> Option<u64>
-        requires sound { IsSound (V.rows view.now) (V.next_inc view.now) }
-        requires level { IsLevel (V.rows view.now) self.now }
-        ensures { IsNextLeading (V.rows view.now) self.now.own behind result }
-    {
-        let mut last = behind;
-        while let Some(child) = view.next_child(self.own, last) {
-            if self.leads(view, child) {
-                return Some(child);
-            }
-            last = Some(child);
-        }
-        None
     }
 }
 

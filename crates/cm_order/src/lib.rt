@@ -10,8 +10,10 @@
 //! | `below` | whether all at and below an instance is shut |
 //! | `members` | the instances of one level, and their nodes in its graph |
 //! | `level` | which of them nothing binds any more |
+//! | `leading` | the same, by what is kept of the level where that says it |
 //! | `search` | an instance that may stop, below another |
-//! | `named` | the children that something at their level strongly comes from |
+//! | `dependents` | what depends on each child of a level |
+//! | `clearing` | how what is known of a level changes as its nodes are shut |
 //! | `glance` | a node of a level that nothing binds, by tests that cost little |
 //! | `stand` | a level on a way down, and what is known of it |
 //! | `plan` | the ways down that picks took, from one pick to the next |
@@ -27,11 +29,13 @@
 pub(crate) mod above;
 pub(crate) mod below;
 pub mod choosing;
+pub(crate) mod clearing;
+pub(crate) mod dependents;
 pub(crate) mod glance;
 pub mod laws;
+pub(crate) mod leading;
 pub(crate) mod level;
 pub(crate) mod members;
-pub(crate) mod named;
 pub mod picking;
 pub mod plan;
 pub(crate) mod quick;
@@ -39,6 +43,6 @@ pub(crate) mod search;
 pub(crate) mod stand;
 
 pub use below::all_shut;
-pub use choosing::{may_close, may_pick};
+pub use choosing::{may_close, may_pick, may_pick_with};
 pub use picking::{Picked, pick, pick_with};
 pub use plan::DescentPlan;

@@ -9,10 +9,11 @@ ghost use Rattle.cm_world.specs.Step.{may_close};
 ghost use Rattle.cm_order.specs.declared.search.SearchGoal.TheVariants as wanted;
 ghost use Rattle.cm_order.specs.Search.{NoneIs};
 ghost use Rattle.cm_order.specs.Picking.{IsPicked, PickWaitsFor};
-ghost use Rattle.cm_order.specs.Plans.{IsPlan};
+ghost use Rattle.cm_order.specs.Plans.{IsPlan, AreKnown};
 
 use crate::above::{is_unshut, outermost};
 use crate::below::all_shut;
+use crate::dependents::Dependents;
 use crate::plan::DescentPlan;
 use crate::quick::quick;
 use crate::search::{SearchGoal, search};
@@ -20,6 +21,7 @@ use cm_names::Memory;
 use cm_walk::above::is_on;
 use cm_world::View;
 use std::alloc::Global;
+use std::collections::BTreeMap;
 
 /// What a pick comes to.
 #[derive(Debug, Clone, Copy, PartialEq, Eq)]
@@ -49,11 +51,11 @@ pub enum Picked {
 /// shut and may stop: a shutdown is never at a dead end. `Err` comes where memory runs out, and
 /// there alone.
 ///
-/// It goes down from the outermost one, at each level into the first child that isn't all shut, as
-/// long as nothing there that isn't shut strongly depends on that child. That looks once at the
-/// declaration and the children of each level on the way, and at all below the instance that it
-/// comes to. Where a child that isn't all shut is named only by children that are shut, it also
-/// looks at all below those, and once more at the level.
+/// It goes down from the outermost one, at each level into a child that isn't all shut and on which
+/// nothing there strongly depends that isn't. That looks once at the declaration and the children of
+/// each level on the way, at all below the instance that it comes to, and at all below a child that is
+/// shut where another waits for it. Where it comes to a pending action, it goes on beside that, up to
+/// 64 times.
 ///
 /// Where that leads to no instance that may be picked, it searches, at each level into the first
 /// child that may be next. Then the graph of each level on the way is made once, and once more for
@@ -77,9 +79,9 @@ pub fn pick<V: View>(alloc: Global, view: &V, target: u64) -> Result<Picked, Mem
 ///
 /// The plan is that of the picks before, or one that knows of no level; it has to hold in this tree,
 /// and holds still at an `Err`. The way down goes on from the last instance on that of the pick before
-/// with the same outermost one that isn't shut, behind the child that was left last. What is known of
-/// its levels isn't looked at anew. It takes memory for each level of the way, and for each child of
-/// it on which another strongly depends.
+/// with the same outermost one that isn't shut. What is known of levels isn't looked at anew: a level
+/// costs its edges in all, however many picks there are. It takes memory for each level of the way, and
+/// for each strong edge to a child of a level that was looked at.
 pub fn pick_with<V: View>(
     alloc: Global,
     view: &V,
@@ -102,9 +104,12 @@ pub fn pick_with<V: View>(
     if let Some(inc) = quick(alloc, view, plan, top)? {
         return Ok(stop_or_shut(view, inc));
     }
-    match search(alloc, view, top, SearchGoal::Idle)? {
+    match search(alloc, view, &mut plan.levels, top, SearchGoal::Idle)? {
         Some(inc) => Ok(stop_or_shut(view, inc)),
-        None => Ok(Picked::Waits(action_at(alloc, view, target, top)?)),
+        None => {
+            let action = action_at(alloc, view, &mut plan.levels, target, top)?;
+            Ok(Picked::Waits(action))
+        }
     }
 }
 
@@ -141,14 +146,22 @@ fn stop_or_shut<V: View>(view: &V, inc: u64) -> Picked
 
 /// The pending action that is waited for, where none of the instances that may stop is idle, and
 /// not all is shut.
-fn action_at<V: View>(alloc: Global, view: &V, target: u64, top: u64) -> Result<u64, Memory>
+fn action_at<V: View>(
+    alloc: Global,
+    view: &V,
+    levels: &mut BTreeMap<u64, Dependents>,
+    target: u64,
+    top: u64,
+) -> Result<u64, Memory>
     requires sound { IsSound (V.rows view.now) (V.next_inc view.now) }
     requires top { spec.outermost (V.rows view.now) target ≡ Some top }
     requires undone { is_subtree_shut (V.rows view.now) target ≡ false }
     requires stuck { NoneIs (V.rows view.now) top wanted.Idle }
-    ensures { IfOk result (PickWaitsFor (V.rows view.now) target) }
+    requires levels { AreKnown (V.rows view.now) levels.old }
+    ensures waits { IfOk result (PickWaitsFor (V.rows view.now) target) }
+    ensures levels { AreKnown (V.rows view.now) levels.new }
 {
-    let Some(inc) = search(alloc, view, top, SearchGoal::Pending)? else {
+    let Some(inc) = search(alloc, view, levels, top, SearchGoal::Pending)? else {
         unreachable!();
     };
     match pending(view, inc) {

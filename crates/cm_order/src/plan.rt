@@ -7,6 +7,7 @@ ghost use Rattle.cm_order.specs.Glances.{AreKidsShut};
 ghost use Rattle.cm_order.specs.Plans.{IsPlan, KnowsNone};
 
 use crate::above::is_closing;
+use crate::dependents::Dependents;
 use crate::stand::Stand;
 use cm_names::Memory;
 use cm_world::View;
@@ -14,8 +15,8 @@ use std::alloc::Global;
 use std::collections::BTreeMap;
 use std::mem;
 
-/// The ways down that picks took, with what is known of the levels on them: on which children of
-/// each something there depends that isn't all shut.
+/// The ways down that picks took, and what is known of levels: what depends on each child there that
+/// isn't known to be cleared.
 ///
 /// It is handed from one pick to the next, so that a pick goes on where the last one stood, and a
 /// level isn't looked at once more for each of its children. It holds for a tree that it was made
@@ -29,6 +30,8 @@ pub struct DescentPlan {
     pub(crate) way: Vec<Stand>,
     /// The ways of picks before that began at other tops, by those.
     pub(crate) others: BTreeMap<u64, Vec<Stand>>,
+    /// What is known of levels, by their instances.
+    pub(crate) levels: BTreeMap<u64, Dependents>,
 }
 
 impl DescentPlan {
@@ -40,6 +43,7 @@ impl DescentPlan {
             top: 0,
             way: Vec::new(alloc),
             others: BTreeMap::new(alloc),
+            levels: BTreeMap::new(alloc),
         }
     }
 
@@ -49,6 +53,7 @@ impl DescentPlan {
     {
         self.way.clear();
         self.others.clear();
+        self.levels.clear();
     }
 
     /// Whether the way of the last pick ends at this instance, and its top is being shut down, so that

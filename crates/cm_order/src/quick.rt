@@ -7,10 +7,10 @@ ghost use Rattle.cm_world.specs.Rows.{is_subtree_shut};
 ghost use Rattle.cm_world.specs.Sound.{IsSound};
 ghost use Rattle.cm_world.specs.Stopping as spec;
 ghost use Rattle.cm_order.specs.Glances.{IsQuick, IsGlance};
-ghost use Rattle.cm_order.specs.Plans.{IsPlan, IsFreeOnTheWay, IsKnownLevel, IsDescent};
+ghost use Rattle.cm_order.specs.Plans.{IsPlan, IsFreeOnTheWay, IsKnownLevel, IsDescent, AreKnown};
 
 use crate::above::is_unshut;
-use crate::below::Spot;
+use crate::dependents::Dependents;
 use crate::glance::glance;
 use crate::plan::DescentPlan;
 use crate::search::VisitResult;
@@ -18,6 +18,11 @@ use crate::stand::Stand;
 use cm_names::Memory;
 use cm_world::View;
 use std::alloc::Global;
+use std::collections::BTreeMap;
+
+/// How often one pick turns back from an instance below which nothing is found. What stands below
+/// pending actions is left to the search where there are more.
+const TRIES: u32 = 64;
 
 /// An instance at or below the top that isn't shut, has no pending action and may stop, where the
 /// top is an outermost one that is being shut down. `None` says nothing: there may be one that
@@ -25,7 +30,7 @@ use std::alloc::Global;
 ///
 /// It goes on from the last instance of the way that isn't shut. Each level from there down of which
 /// nothing is known is looked at, and what is below the instance that is found, as far as it isn't
-/// known to be shut.
+/// known to be shut. Where it comes to a pending action it goes on beside it.
 pub(crate) fn quick<V: View>(
     alloc: Global,
     view: &V,
@@ -39,74 +44,134 @@ pub(crate) fn quick<V: View>(
     ensures plan { IsPlan (V.rows view.now) plan.new }
 {
     plan.begin(alloc, top)?;
-    let found = descend(alloc, view, &mut plan.way, top)?;
+    let found = descend(alloc, view, &mut plan.levels, &mut plan.way, top)?;
     Ok(found)
 }
 
-/// The same, with the way alone.
+/// Goes down from the top as often as `TRIES` allows, with the kept way and levels alone, and answers
+/// the instance found to stop.
 fn descend<V: View>(
     alloc: Global,
     view: &V,
+    levels: &mut BTreeMap<u64, Dependents>,
     way: &mut Vec<Stand>,
     top: u64,
 ) -> Result<Option<u64>, Memory>
     requires sound { IsSound (V.rows view.now) (V.next_inc view.now) }
     requires top { spec.outermost (V.rows view.now) top ≡ Some top }
     requires way { IsDescent (V.rows view.now) top way.old.items }
+    requires levels { AreKnown (V.rows view.now) levels.old }
     ensures quick { IfOk result (IsQuick (V.rows view.now) top) }
     ensures way { IsDescent (V.rows view.now) top way.new.items }
+    ensures levels { AreKnown (V.rows view.now) levels.new }
 {
-    let spot = start(view, way, top)?;
-    let mut behind = spot.behind;
-    let mut at = Some(spot.inc);
+    let mut at = start(view, levels, way, top)?;
+    for _turn in 0..TRIES {
+        let found = go_down(alloc, view, levels, way, top, at)?;
+        if found.is_some() {
+            return Ok(found);
+        }
+        let Some(above) = go_up(view, way, top)? else {
+            return Ok(None);
+        };
+        at = above;
+    }
+    Ok(None)
+}
+
+/// The way down from an instance where the way ends, without turning back.
+fn go_down<V: View>(
+    alloc: Global,
+    view: &V,
+    levels: &mut BTreeMap<u64, Dependents>,
+    way: &mut Vec<Stand>,
+    top: u64,
+    inc: u64,
+) -> Result<Option<u64>, Memory>
+    requires sound { IsSound (V.rows view.now) (V.next_inc view.now) }
+    requires top { spec.outermost (V.rows view.now) top ≡ Some top }
+    requires start { IsFreeOnTheWay (V.rows view.now) top inc }
+    requires way { IsDescent (V.rows view.now) top way.old.items }
+    requires levels { AreKnown (V.rows view.now) levels.old }
+    ensures quick { IfOk result (IsQuick (V.rows view.now) top) }
+    ensures way { IsDescent (V.rows view.now) top way.new.items }
+    ensures levels { AreKnown (V.rows view.now) levels.new }
+{
+    let mut at = Some(inc);
     'down: while let Some(here) = at {
-        match step(alloc, view, way, top, Spot { inc: here, behind })? {
+        match step(alloc, view, levels, way, top, here)? {
             VisitResult::Here => return Ok(Some(here)),
-            VisitResult::Below(child) => {
-                at = child;
-                behind = None;
-            }
+            VisitResult::Below(child) => at = child,
         }
     }
     Ok(None)
 }
 
+/// Leaves the end of the way behind, below which nothing was found. Tells the instance where it ends
+/// then, or `None` where it ends at its top, which stays.
+fn go_up<V: View>(view: &V, way: &mut Vec<Stand>, top: u64) -> Result<Option<u64>, Memory>
+    requires way { IsDescent (V.rows view.now) top way.old.items }
+    ensures up { IfOk result (λ up. IfSome up (IsFreeOnTheWay (V.rows view.now) top)) }
+    ensures way { IsDescent (V.rows view.now) top way.new.items }
+{
+    let Some(last) = way.pop() else {
+        return Ok(None);
+    };
+    let Some(above) = way.pop() else {
+        way.push(last)?;
+        return Ok(None);
+    };
+    let inc = above.inc;
+    way.push(above)?;
+    Ok(Some(inc))
+}
+
 /// The place at which a pick begins: the last instance of the way that isn't shut, or the top.
-fn start<V: View>(view: &V, way: &mut Vec<Stand>, top: u64) -> Result<Spot, Memory>
+fn start<V: View>(
+    view: &V,
+    levels: &mut BTreeMap<u64, Dependents>,
+    way: &mut Vec<Stand>,
+    top: u64,
+) -> Result<u64, Memory>
     requires sound { IsSound (V.rows view.now) (V.next_inc view.now) }
     requires top { spec.outermost (V.rows view.now) top ≡ Some top }
     requires way { IsDescent (V.rows view.now) top way.old.items }
-    ensures start { IfOk result (λ s. IsFreeOnTheWay (V.rows view.now) top s.inc) }
+    requires levels { AreKnown (V.rows view.now) levels.old }
+    ensures start { IfOk result (IsFreeOnTheWay (V.rows view.now) top) }
     ensures way { IsDescent (V.rows view.now) top way.new.items }
+    ensures levels { AreKnown (V.rows view.now) levels.new }
 {
-    if let Some(spot) = go_back(view, way, top)? {
-        return Ok(spot);
+    if let Some(inc) = go_back(view, levels, way, top)? {
+        return Ok(inc);
     }
     way.push(Stand::new(top))?;
-    Ok(Spot {
-        inc: top,
-        behind: None,
-    })
+    Ok(top)
 }
 
-/// Leaves behind what is shut at the end of the way. Tells the last instance that isn't, and which
-/// of its children was left behind; `None` where none is left.
-fn go_back<V: View>(view: &V, way: &mut Vec<Stand>, top: u64) -> Result<Option<Spot>, Memory>
+/// Leaves behind what is shut at the end of the way, with what is kept of its levels. Tells the last
+/// instance that isn't; `None` where none is left.
+fn go_back<V: View>(
+    view: &V,
+    levels: &mut BTreeMap<u64, Dependents>,
+    way: &mut Vec<Stand>,
+    top: u64,
+) -> Result<Option<u64>, Memory>
     requires sound { IsSound (V.rows view.now) (V.next_inc view.now) }
     requires way { IsDescent (V.rows view.now) top way.old.items }
-    ensures last { IfOk result (λ last. IfSome last (λ s. IsFreeOnTheWay (V.rows view.now) top s.inc)) }
+    requires levels { AreKnown (V.rows view.now) levels.old }
+    ensures last { IfOk result (λ last. IfSome last (IsFreeOnTheWay (V.rows view.now) top)) }
     ensures way { IsDescent (V.rows view.now) top way.new.items }
+    ensures levels { AreKnown (V.rows view.now) levels.new }
 {
-    let mut behind = None;
     let mut closed = None;
     while let Some(mut stand) = way.pop() {
         let inc = stand.inc;
         if is_unshut(view, inc) {
             count_done(view, &mut stand, closed);
             way.push(stand)?;
-            return Ok(Some(Spot { inc, behind }));
+            return Ok(Some(inc));
         }
-        behind = Some(inc);
+        levels.remove(&inc);
         closed = left_shut(&stand);
     }
     Ok(None)
@@ -146,22 +211,25 @@ fn count_done<V: View>(view: &V, stand: &mut Stand, closed: Option<u64>)
 fn step<V: View>(
     alloc: Global,
     view: &V,
+    levels: &mut BTreeMap<u64, Dependents>,
     way: &mut Vec<Stand>,
     top: u64,
-    spot: Spot,
+    inc: u64,
 ) -> Result<VisitResult, Memory>
     requires sound { IsSound (V.rows view.now) (V.next_inc view.now) }
     requires way { IsDescent (V.rows view.now) top way.old.items }
-    ensures step { IfOk result (IsGlance (V.rows view.now) spot.inc) }
+    requires levels { AreKnown (V.rows view.now) levels.old }
+    ensures step { IfOk result (IsGlance (V.rows view.now) inc) }
     ensures way { IsDescent (V.rows view.now) top way.new.items }
+    ensures levels { AreKnown (V.rows view.now) levels.new }
 {
     let Some(mut stand) = way.pop() else {
         return Ok(VisitResult::Below(None));
     };
-    if stand.inc != spot.inc {
+    if stand.inc != inc {
         return Ok(VisitResult::Below(None));
     }
-    let seen = glance(alloc, view, &mut stand, spot.behind)?;
+    let seen = glance(alloc, view, levels, &mut stand)?;
     way.push(stand)?;
     if let VisitResult::Below(Some(child)) = seen {
         way.push(Stand::new(child))?;

@@ -1,18 +1,22 @@
 //! The search for an instance that may stop.
 
-ghost use Rattle.std.specs.Prelude.{◌≡◌, false, Some, IsTrue, ◌↔◌, IfOk};
+ghost use Rattle.std.specs.Prelude.{◌≡◌, false, Some, IsTrue, ◌↔◌, IfOk, IfSome};
 ghost use Rattle.std.specs.Option.{option_map_or};
 ghost use Rattle.cm_world.specs.Rows.{row_of};
 ghost use Rattle.cm_world.specs.Sound.{IsSound};
 ghost use Rattle.cm_world.specs.Stopping as spec;
 ghost use Rattle.cm_order.specs.Levels.{IsLevel};
+ghost use Rattle.cm_order.specs.Plans.{AreKnown};
 ghost use Rattle.cm_order.specs.Search.{is_wanted, IsHere, IsVisit, IsSearched};
 
 use crate::below::{Spot, go_on};
+use crate::dependents::Dependents;
+use crate::leading::{leads_own, next_leading};
 use crate::level::Level;
 use cm_names::Memory;
 use cm_world::View;
 use std::alloc::Global;
+use std::collections::BTreeMap;
 
 /// Which instances are looked for.
 #[derive(Debug, Clone, Copy, PartialEq, Eq)]
@@ -35,25 +39,29 @@ pub(crate) enum VisitResult {
 /// An instance that is looked for, isn't shut and may stop, at or below the top, which is an
 /// outermost one that is being shut down. `None` where there is none. `Err` where memory runs out.
 ///
-/// The level of each instance on the way down to the one that is found is made once, and once
-/// more for each child there below which nothing was found.
+/// At each level on the way down children are asked one behind another whether they lead, by what is
+/// kept of the level where that says it. Else the level is made with its graph.
 pub(crate) fn search<V: View>(
     alloc: Global,
     view: &V,
+    levels: &mut BTreeMap<u64, Dependents>,
     top: u64,
     wanted: SearchGoal,
 ) -> Result<Option<u64>, Memory>
     requires sound { IsSound (V.rows view.now) (V.next_inc view.now) }
     requires top { spec.outermost (V.rows view.now) top ≡ Some top }
-    ensures { IfOk result (IsSearched (V.rows view.now) top wanted) }
+    requires levels { AreKnown (V.rows view.now) levels.old }
+    ensures found { IfOk result (IsSearched (V.rows view.now) top wanted) }
+    ensures levels { AreKnown (V.rows view.now) levels.new }
 {
     let mut left = Vec::new(alloc);
     left.push(Spot {
         inc: top,
         behind: None,
     })?;
+    let mut kept = None;
     while let Some(spot) = left.pop() {
-        match look_at(alloc, view, wanted, spot)? {
+        match look_at(alloc, view, levels, &mut kept, wanted, spot)? {
             VisitResult::Here => return Ok(Some(spot.inc)),
             VisitResult::Below(child) => go_on(&mut left, spot.inc, child)?,
         }
@@ -61,39 +69,51 @@ pub(crate) fn search<V: View>(
     Ok(None)
 }
 
-/// Visits a place of the search.
+/// Visits a place of the search. The level that is kept is the last that was made.
 fn look_at<V: View>(
     alloc: Global,
     view: &V,
+    levels: &mut BTreeMap<u64, Dependents>,
+    kept: &mut Option<Level>,
     wanted: SearchGoal,
     spot: Spot,
 ) -> Result<VisitResult, Memory>
-    requires { IsSound (V.rows view.now) (V.next_inc view.now) }
-    ensures { IfOk result (IsVisit (V.rows view.now) wanted spot) }
+    requires sound { IsSound (V.rows view.now) (V.next_inc view.now) }
+    requires levels { AreKnown (V.rows view.now) levels.old }
+    requires kept { IfSome kept.old (IsLevel (V.rows view.now)) }
+    ensures visit { IfOk result (IsVisit (V.rows view.now) wanted spot) }
+    ensures levels { AreKnown (V.rows view.now) levels.new }
+    ensures kept { IfSome kept.new (IsLevel (V.rows view.now)) }
 {
-    let level = Level::of(alloc, view, spot.inc)?;
-    if is_here(view, &level, wanted, spot) {
+    if is_here(alloc, view, kept, wanted, spot)? {
         return Ok(VisitResult::Here);
     }
-    let child = level.next_leading(view, spot.behind);
+    let child = next_leading(alloc, view, levels, kept, spot.inc, spot.behind)?;
     Ok(VisitResult::Below(child))
 }
 
 /// Whether the place is new, and its instance is one that is looked for and leads at its own
 /// level.
-fn is_here<V: View>(view: &V, level: &Level, wanted: SearchGoal, spot: Spot) -> bool
+fn is_here<V: View>(
+    alloc: Global,
+    view: &V,
+    kept: &mut Option<Level>,
+    wanted: SearchGoal,
+    spot: Spot,
+) -> Result<bool, Memory>
     requires sound { IsSound (V.rows view.now) (V.next_inc view.now) }
-    requires level { IsLevel (V.rows view.now) level.now }
-    requires own { level.now.own ≡ spot.inc }
-    ensures { IsTrue result ↔ IsHere (V.rows view.now) wanted spot }
+    requires kept { IfSome kept.old (IsLevel (V.rows view.now)) }
+    ensures here { IfOk result (λ here. IsTrue here ↔ IsHere (V.rows view.now) wanted spot) }
+    ensures kept { IfSome kept.new (IsLevel (V.rows view.now)) }
 {
     if spot.behind.is_some() {
-        return false;
+        return Ok(false);
     }
     if !wants(view, wanted, spot.inc) {
-        return false;
+        return Ok(false);
     }
-    level.leads(view, spot.inc)
+    let leads = leads_own(alloc, view, kept, spot.inc)?;
+    Ok(leads)
 }
 
 /// Whether the instance lives and is one that is looked for.

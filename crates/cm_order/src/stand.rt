@@ -2,16 +2,11 @@
 
 ghost use Rattle.std.specs.Prelude.{◌≡◌, false, None};
 
-use std::collections::BTreeSet;
-
 /// A level on a way down, and what is known of it.
 #[derive(Drop)]
 pub(crate) struct Stand {
     /// The instance whose level it is.
     pub inc: u64,
-    /// The children on which something there depends that isn't all shut, and maybe others; `None`
-    /// where the level wasn't looked at, or that couldn't be told.
-    pub named: Option<BTreeSet<u64>>,
     /// The children up to this one are shut, with all below them; `None` says nothing.
     pub done: Option<u64>,
     /// Whether all below the instance is shut; `false` says nothing.
@@ -21,11 +16,10 @@ pub(crate) struct Stand {
 impl Stand {
     /// A level that wasn't looked at.
     pub(crate) fn new(inc: u64) -> Stand
-        ensures { result ≡ record { inc = inc; named = None; done = None; below_shut = false } }
+        ensures { result ≡ record { inc = inc; done = None; below_shut = false } }
     {
         Stand {
             inc,
-            named: None,
             done: None,
             below_shut: false,
         }

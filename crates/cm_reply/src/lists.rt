@@ -1,6 +1,6 @@
 //! Texts of lists.
 
-ghost use Rattle.std.specs.Prelude.{◌≡◌, [], codes, string_bytes, IfOk, OnOk, IfSome};
+ghost use Rattle.std.specs.Prelude.{map, ◌≡◌, [], codes, string_bytes, IfOk, OnOk, IfSome};
 ghost use Rattle.cm_names.specs.Child.{child_text};
 ghost use Rattle.cm_names.specs.Moniker.{moniker_text};
 ghost use Rattle.cm_reply.specs.Lists as spec;
@@ -80,9 +80,9 @@ impl<T: ListItem + Drop> ListItem for Shared<T> {
 }
 
 /// Puts names of children at the end, each after a slash.
-fn push_behind_slashes(text: &mut String, parts: &[Shared<ChildName>]) -> Result<(), Memory>
+fn push_behind_slashes(text: &mut String, parts: &[&Shared<ChildName>]) -> Result<(), Memory>
     ensures { OnOk result (GainsText text.old text.new
-        (spec.each_behind (codes "/") child_text parts.now)) }
+        (spec.each_behind (codes "/") child_text (map (λ x. x.now) parts.now))) }
 {
     for part in parts {
         text.push('/')?;
@@ -92,8 +92,9 @@ fn push_behind_slashes(text: &mut String, parts: &[Shared<ChildName>]) -> Result
 }
 
 /// Puts names of children at the end, with slashes between them; a dot for none.
-fn push_parts(text: &mut String, parts: &[Shared<ChildName>]) -> Result<(), Memory>
-    ensures { OnOk result (GainsText text.old text.new (spec_inside.parts_text parts.now)) }
+fn push_parts(text: &mut String, parts: &[&Shared<ChildName>]) -> Result<(), Memory>
+    ensures { OnOk result (GainsText text.old text.new
+        (spec_inside.parts_text (map (λ x. x.now) parts.now))) }
 {
     let [first, others @ ..] = parts else {
         return push(text, ".");
@@ -106,7 +107,8 @@ fn push_parts(text: &mut String, parts: &[Shared<ChildName>]) -> Result<(), Memo
 pub fn push_moniker(text: &mut String, moniker: &Moniker) -> Result<(), Memory>
     ensures { OnOk result (GainsText text.old text.new (moniker_text moniker.now)) }
 {
-    push_parts(text, moniker.parts.as_slice())
+    let parts = moniker.parts.items(*text.allocator())?;
+    push_parts(text, parts.as_slice())
 }
 
 /// Puts the text of each item, after that mark, at the end. `Err` where memory runs out.

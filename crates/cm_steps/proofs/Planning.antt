@@ -5,7 +5,6 @@ use Rattle.std.specs.Option.{option_eq, option_map_or}
 use Rattle.std.specs.Prelude.{nat_eq, IfSome}
 use Rattle.std.specs.Ordering.{nat_cmp}
 use Rattle.std.specs.BTreeMap.{get}
-use Rattle.std.specs.BTreeSet.{BTreeSet}
 use Rattle.std.proofs.lemmas.List.{length-map}
 use Rattle.cm_decl.specs.declared.decl.Decl.{Decl}
 use Rattle.cm_decl.specs.declared.origin.Origin.{Origin}
@@ -27,10 +26,11 @@ use Rattle.cm_decl.proofs.Sameness.{never}
 use Rattle.cm_order.specs.declared.plan.DescentPlan.{DescentPlan}
 use Rattle.cm_order.specs.declared.stand.Stand.{Stand}
 use Rattle.cm_order.specs.Kids.{IsKid}
-use Rattle.cm_order.specs.Glances.{HasBound}
+use Rattle.cm_order.specs.declared.dependents.Dependents.{Dependents}
+use Rattle.cm_order.specs.Glances.{IsCleared, KnowsDependents}
 use Rattle.cm_order.specs.Plans.{IsFreeOnTheWay, IsKnownLevel, AreShutSoFar, IsDescent, IsPlan, KnowsNone}
 use Rattle.cm_order.proofs.searches.Reaching.{plan_none}
-use Rattle.cm_order.proofs.trees.Trees.{below_lives, shut_each, shut_all, not_true, true_not_false}
+use Rattle.cm_order.proofs.trees.Trees.{below_lives, shut_each, shut_all}
 use Rattle.cm_order.proofs.names.Listing.{any_same}
 use Rattle.cm_cache.specs.Right.{bare}
 use Rattle.cm_cache.specs.Keeping.{forgets}
@@ -199,14 +199,7 @@ module _ (old new : List Row) (next n m : ℕ) (was : IsOrderly old next) (is : 
   wholly_stays p z shut =
       wholly_by (z == p) (is_shut old z) (is_subtree_shut old z) (is_shut new z) (is_subtree_shut new z) (own_stays z) (below_stays z) shut
 
-  -- so what covers all that is bound at a level goes on to do so
-  bound_stays : (p : ℕ) (named : BTreeSet ℕ) → HasBound old p named → HasBound new p named
-  bound_stays p named has z x apart unshut way =
-      has z x apart
-      (not_true (is_wholly_shut old p z) (λ shut. true_not_false (is_wholly_shut new p z) (wholly_stays p z shut) unshut))
-      (reaches_on (LevelOn new p) (LevelOn old p) (direct_on new old (reads_same new old (sym bares)) p) z x way)
-
-  -- and what is free stays free
+  -- so what is free stays free
   free_stays : (p c : ℕ) → IsFree old p c → IsFree new p c
   free_stays p c free z way =
       wholly_stays p z (free z (reaches_on (LevelOn new p) (LevelOn old p) (direct_on new old (reads_same new old (sym bares)) p) z c way))
@@ -221,9 +214,15 @@ module _ (old new : List Row) (next n m : ℕ) (was : IsOrderly old next) (is : 
     free = λ p c kid upper lower. free_stays p c (it.free p c (kid_was old new p c kid ((reads_same old new bares).rows c)) (below_was top p upper) (below_was c i lower));
   }
 
-  named_stays : (p : ℕ) (o : Option (BTreeSet ℕ)) → IfSome o (HasBound old p) → IfSome o (HasBound new p)
-  named_stays p None has = has
-  named_stays p (Some named) has = bound_stays p named has
+  cleared_stays : (p z : ℕ) → IsCleared old p z → IsCleared new p z
+  cleared_stays p z it = record { free = free_stays p z it.free; shut = wholly_stays p z it.shut }
+
+  -- the strong edges are the same, and what is cleared stays so
+  level_stays : (p : ℕ) (known : Dependents) → KnowsDependents old p known → KnowsDependents new p known
+  level_stays p known it = record {
+    clients = λ z x other strong. it.clients z x other (strong_back old new (reads_same old new bares) p z x strong);
+    cleared = λ z there. cleared_stays p z (it.cleared z there);
+  }
 
   kid_before : (p c : ℕ) → IsKid new p c → IsKid old p c
   kid_before p c kid = kid_was old new p c kid ((reads_same old new bares).rows c)
@@ -236,7 +235,6 @@ module _ (old new : List Row) (next n m : ℕ) (was : IsOrderly old next) (is : 
 
   known_stays : (s : Stand) → IsKnownLevel old s → IsKnownLevel new s
   known_stays s it = record {
-    named = named_stays s.inc s.named it.named;
     done = done_stays s.inc s.done it.done;
     below = λ yes c kid. below_stays c (it.below yes c (kid_before s.inc c kid));
   }
@@ -252,6 +250,7 @@ module _ (old new : List Row) (next n m : ℕ) (was : IsOrderly old next) (is : 
   plan_stays plan it = record {
     way = way_stays plan.top plan.way.items it.way;
     others = λ top. if_some (λ way. IsDescent old top way.items) (λ way. IsDescent new top way.items) (get nat_cmp plan.others top) (λ way. way_stays top way.items) (it.others top);
+    levels = λ p. if_some (KnowsDependents old p) (KnowsDependents new p) (get nat_cmp plan.levels p) (level_stays p) (it.levels p);
   }
 
 -- ---- entries

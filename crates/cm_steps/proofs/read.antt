@@ -3,4 +3,3 @@ pub mod Reporting
 pub mod Creations
 pub mod Kids
 pub mod Leading
-pub mod Marking

@@ -140,8 +140,8 @@ fn known_at<V: View>(alloc: Global, view: &V, inc: u64, place: &Place) -> Result
 {
     let above = moniker(alloc, view, place.owner)?;
     let whole = moniker(alloc, view, inc)?;
-    let names = behind(whole.parts.as_slice(), above.parts.len());
-    stands(alloc, place, names)
+    let names = whole.parts.items(alloc)?;
+    stands(alloc, place, behind(names.as_slice(), above.parts.len()))
 }
 
 /// What is known where there is no place; `Err` where memory ran out.

@@ -1,6 +1,6 @@
 //! What is known of a storage that an instance hands on to its children.
 
-ghost use Rattle.std.specs.Prelude.{◌≡◌, ◌++◌, codes, IfOk, OnOk, flat_map};
+ghost use Rattle.std.specs.Prelude.{◌≡◌, ◌++◌, codes, IfOk, OnOk, flat_map, map};
 ghost use Rattle.cm_names.specs.Child.{child_text};
 ghost use Rattle.cm_reply.specs.ListsInside.{GainsText};
 ghost use Rattle.cm_storage.specs.Report as report;
@@ -88,9 +88,9 @@ pub(crate) fn refused(alloc: Global, fault: &StorageFault) -> Result<KnownPlace,
 pub(crate) fn stands(
     alloc: Global,
     place: &Place,
-    names: &[Shared<ChildName>],
+    names: &[&Shared<ChildName>],
 ) -> Result<KnownPlace, Memory>
-    ensures { IfOk result (λ known. known ≡ spec.stands place.now names.now) }
+    ensures { IfOk result (λ known. known ≡ spec.stands place.now (map (λ x. x.now) names.now)) }
 {
     let head = head_of(alloc, place.base.as_str(), names)?;
     let tail = tail_of(alloc, place)?;
@@ -98,8 +98,8 @@ pub(crate) fn stands(
 }
 
 /// ` at BASE/`, and the folders of these names.
-fn head_of(alloc: Global, base: &str, names: &[Shared<ChildName>]) -> Result<Text, Memory>
-    ensures { IfOk result (λ head. head ≡ spec.head_of base.now names.now) }
+fn head_of(alloc: Global, base: &str, names: &[&Shared<ChildName>]) -> Result<Text, Memory>
+    ensures { IfOk result (λ head. head ≡ spec.head_of base.now (map (λ x. x.now) names.now)) }
 {
     let mut text = String::new(alloc);
     push(&mut text, " at ")?;
@@ -110,8 +110,9 @@ fn head_of(alloc: Global, base: &str, names: &[Shared<ChildName>]) -> Result<Tex
 }
 
 /// Puts the folder of each name, and what stands below it, at the end.
-fn push_folders(text: &mut String, names: &[Shared<ChildName>]) -> Result<(), Memory>
-    ensures { OnOk result (GainsText text.old text.new (spec.folders_text names.now)) }
+fn push_folders(text: &mut String, names: &[&Shared<ChildName>]) -> Result<(), Memory>
+    ensures { OnOk result (GainsText text.old text.new
+        (spec.folders_text (map (λ x. x.now) names.now))) }
 {
     for name in names {
         name.push_to(text)?;

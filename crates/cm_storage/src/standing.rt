@@ -1,7 +1,7 @@
 //! Instances whose children a report tells of.
 
 ghost use Rattle.std.specs.Prelude.{◌≡◌, ◌++◌, codes, IfOk, OnOk, IfSome, Some};
-ghost use Rattle.std.specs.Prelude.{All, find, option_map};
+ghost use Rattle.std.specs.Prelude.{All, find, map, option_map};
 ghost use Rattle.std.specs.Option.{option_copied};
 ghost use Rattle.std.specs.Str.{bytes_eq};
 ghost use Rattle.cm_names.specs.Child.{child_text};
@@ -144,13 +144,15 @@ fn prefix_alone<V: View>(alloc: Global, view: &V, inc: u64) -> Result<Text, Memo
 {
     let place = moniker(alloc, view, inc)?;
     let mut text = String::new(alloc);
-    push_names(&mut text, place.parts.as_slice())?;
+    let names = place.parts.items(alloc)?;
+    push_names(&mut text, names.as_slice())?;
     Text::from_string(text)
 }
 
 /// Puts each name, with a slash after it, at the end.
-fn push_names(text: &mut String, names: &[Shared<ChildName>]) -> Result<(), Memory>
-    ensures { OnOk result (GainsText text.old text.new (spec.names_text names.now)) }
+fn push_names(text: &mut String, names: &[&Shared<ChildName>]) -> Result<(), Memory>
+    ensures { OnOk result (GainsText text.old text.new
+        (spec.names_text (map (λ x. x.now) names.now))) }
 {
     for name in names {
         name.push_to(text)?;

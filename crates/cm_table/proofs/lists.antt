@@ -5,3 +5,4 @@ pub mod Edits
 pub mod Editing
 pub mod Fitting
 pub mod BinarySearch
+pub mod Sought

@@ -10,3 +10,4 @@ pub mod Rows
 pub mod Siblings
 pub mod Standing
 pub mod Taking
+pub mod Wanting

@@ -1,5 +1,5 @@
 -- Inside.
--- The changes of a table.
+-- The changes of rows in a table. A table keeps the rows of a realm tree in slots, with indexes.
 use Rattle.std.specs.Prelude.{ℕ, ◌+◌, ◌-◌, [], ◌∷◌, ◌++◌, None, length}
 use Rattle.cm_decl.specs.Valid.{IsValid}
 use Rattle.cm_world.specs.declared.row.Row.{Row}
@@ -15,7 +15,7 @@ use Rattle.cm_table.specs.declared.change.Change.TheVariants.{Resolve}
 use Rattle.cm_table.specs.Ready.{Ready}
 use Rattle.cm_table.specs.Tree.{Tree}
 
--- what a change makes of its row
+-- a row after this change
 abbrev pub change_row : Change → Row → Row
 change_row (On on) r = set_on on r
 change_row (Pending pending) r = set_pending pending r
@@ -25,25 +25,26 @@ change_row Shut r = set_shut r
 change_row (End o) r = end_row o r
 change_row (Resolve absolute d) r = set_decl absolute d (set_pending None r)
 
--- a declaration that it brings is valid
+-- a declaration that the change brings is valid
 abbrev pub IsSafe : Change → Type 0
 IsSafe (Resolve absolute d) = IsValid d
 IsSafe _ = Unit {0}
 
--- it leaves a row as doomed as it was
+-- the change puts no mark at its row, so nothing below it has to be told
 abbrev pub IsSparing : Change → Type 0
+IsSparing Closing = ⊥
 IsSparing Doomed = ⊥
 IsSparing _ = Unit {0}
 
--- with one row changed
+-- the tree with one row changed
 abbrev pub with_changed : ℕ → (Row → Row) → Tree → Tree
 with_changed i change t = record t { rows = changed i change t.rows }
 
--- the next incarnation behind an end of an action with this outcome
+-- the next incarnation after an end of an action with this outcome
 abbrev pub next_by : ℕ → Finish → Outcome → ℕ
 next_by next end o = next + added_by end o
 
--- behind a resolve of row i whose children fit
+-- the tree after row i was resolved to this declaration, whose children fit
 abbrev pub resolved : ℕ → Ready → Tree → Tree
 resolved i ready t = record t {
   rows = rows_by i t.next_inc (finish.Resolved ready.absolute ready.decl) outcome.Resolved t.rows;
@@ -51,6 +52,6 @@ resolved i ready t = record t {
   spare = t.spare - 1;
 }
 
--- with one row more, which gets the next incarnation
+-- the tree with one more row, which gets the next incarnation
 abbrev pub with_row : Row → Tree → Tree
 with_row r t = record t { rows = t.rows ++ r ∷ []; next_inc = t.next_inc + 1 }

@@ -5,10 +5,13 @@ use Rattle.std.specs.Vec.{vec_capacity}
 use Rattle.cm_world.specs.Sound.{IsOrderly}
 use Rattle.cm_table.specs.Tree.{Tree}
 use Rattle.cm_table.specs.Keys.{EachItem, Filled}
+use Rattle.cm_table.specs.Flags.{AreFlagged}
+use Rattle.cm_table.specs.Monikers.{StandWhereKept}
 use Rattle.cm_table.specs.Slots.{slots_in, flat, rows_in, IsIndexed}
+use Rattle.cm_table.specs.Wanted.{KnowsWanted}
 use Rattle.cm_table.specs.declared.table.Table.TheInside.{Inside}
 
--- what its fields say
+-- the tree that a table's fields keep
 abbrev pub tree_of : Inside → Tree
 tree_of a = record {
   rows = rows_in (flat a.blocks.items);
@@ -18,9 +21,10 @@ tree_of a = record {
   spare = a.spare;
 }
 
--- the memory for one block more is there for each resolve that it is kept for, no block is empty,
--- the rows are counted, they are those of an orderly world, and each stands beside the index of
--- its children
+-- what always holds of a table's fields: memory for one block is kept for each resolve that needs it,
+-- no block is empty, the rows are counted and orderly, each has the index of its children, its moniker
+-- where one is kept, and the marks that it and those above it have, and the names that strong gives
+-- name are known
 pub record IsTableInvariant (a : Inside) : Type 0 where
   pub room : length a.blocks.items + a.spare ≤ vec_capacity a.blocks
   pub fits : a.next_inc < 2 ^ 64
@@ -28,3 +32,6 @@ pub record IsTableInvariant (a : Inside) : Type 0 where
   pub count : a.count ≡ length (flat a.blocks.items)
   pub orderly : IsOrderly (rows_in (flat a.blocks.items)) a.next_inc
   pub indexed : EachItem (IsIndexed (rows_in (flat a.blocks.items)) a.next_inc) (flat a.blocks.items)
+  pub flagged : AreFlagged (flat a.blocks.items)
+  pub wanted : KnowsWanted (rows_in (flat a.blocks.items)) a.wanted
+  pub standing : StandWhereKept (flat a.blocks.items)

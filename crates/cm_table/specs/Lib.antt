@@ -1,10 +1,17 @@
 pub mod Tree
 pub mod Ready
+pub mod Orders
 pub mod Offers
+pub mod Named
+pub mod Uses
 pub mod Names
 pub mod Keys
 pub mod Slots
 pub mod Links
+pub mod Flags
+pub mod Marking
+pub mod Wanted
+pub mod Monikers
 pub mod Kept
 pub mod Numbering
 pub mod Preparing

@@ -1,17 +1,14 @@
 -- Inside.
--- The order of offers, in which they are found by binary search.
-use Rattle.std.specs.Prelude.{◌≡◌, ℕ, ◌<◌, List, [], Bool, true, false, Option, Some, None, length, slice_get}
-use Rattle.std.specs.List.{Contains}
-use Rattle.std.specs.List.Sorted.{IsSorted, IsPartitionPoint}
+-- The order of a declaration's offers, in which they are found by binary search.
+use Rattle.std.specs.Prelude.{ℕ, List, [], Bool, Option, Some, None, slice_get}
 use Rattle.std.specs.Ordering.{nat_cmp, ordering_then, is_lt}
 use Rattle.std.specs.declared.cmp.Ordering.{Ordering}
 use Rattle.std.specs.Cmp.Lexicographic.{slice_cmp}
 use Rattle.cm_decl.specs.declared.kind.Kind.{Kind}
 use Rattle.cm_decl.specs.declared.kind.Kind.TheVariants.{Protocol, Directory}
-use Rattle.cm_decl.specs.declared.decl.Decl.{Decl}
 use Rattle.cm_decl.specs.declared.rows.Offer.{Offer}
-use Rattle.cm_world.specs.declared.row.Row.{Row}
 use Rattle.cm_table.specs.declared.offers.OfferLookup.{OfferLookup}
+use Rattle.cm_table.specs.Orders.{place_cmp_by, IsSplitBy, IsOrderBy}
 
 -- what an offer is looked for by: its target, its name there, and the rank of its kind
 pub record OfferKey : Type 0 where
@@ -19,53 +16,47 @@ pub record OfferKey : Type 0 where
   pub name : List ℕ
   pub kind : ℕ
 
--- protocols come before directories
+-- the rank of a kind: protocols come before directories
 abbrev pub kind_rank : Kind → ℕ
 kind_rank Protocol = 0
 kind_rank Directory = 1
 
--- the key that a value of the code stands for
+-- the key that the code looks for
 abbrev pub key_of : OfferLookup → OfferKey
 key_of s = record { to = s.to.now; name = s.name.now; kind = s.kind }
 
--- that of an offer, and one of empty texts where there is none
+-- the key of an offer, or one of empty texts where there is none
 abbrev pub key_by : Option Offer → OfferKey
 key_by None = record { to = []; name = []; kind = 0 }
 key_by (Some o) = record { to = o.to; name = o.give.target_name; kind = kind_rank o.give.kind }
 
--- what the offer at a place is looked for by
+-- the key of the offer at a place
 abbrev pub key_at : List Offer → ℕ → OfferKey
 key_at offers k = key_by (slice_get offers k)
 
--- by targets, then by names, then by kinds
+-- the order of keys: by targets, then by names, then by kinds
 abbrev pub key_cmp : OfferKey → OfferKey → Ordering
 key_cmp a b =
     ordering_then (ordering_then (slice_cmp nat_cmp a.to b.to) (slice_cmp nat_cmp a.name b.name))
     (nat_cmp a.kind b.kind)
 
--- by what their offers are looked for by, then by the places themselves
+-- the order of places by the keys of their offers, then by the places themselves
 abbrev pub place_cmp : List Offer → ℕ → ℕ → Ordering
-place_cmp offers a b = ordering_then (key_cmp (key_at offers a) (key_at offers b)) (nat_cmp a b)
+place_cmp offers a b = place_cmp_by key_by key_cmp offers a b
 
--- what is looked for at a target
+-- the key for this kind and name at a target
 abbrev pub wanted : List ℕ → Kind → List ℕ → OfferKey
 wanted to kind name = record { to = to; name = name; kind = kind_rank kind }
 
--- whether the offer at a place comes before what is looked for
+-- whether the offer at a place comes before the one that is looked for
 abbrev pub is_before : List Offer → OfferKey → ℕ → Bool
 is_before offers w k = is_lt (key_cmp (key_at offers k) w)
 
--- the first so many places come before what is looked for, and the others don't
+-- the first n places have keys before the one that is looked for, and the others don't: where a binary
+-- search ends
 abbrev pub IsSplit : List Offer → List ℕ → OfferKey → ℕ → Type 0
-IsSplit offers places w n =
-    IsPartitionPoint (λ k. is_before offers w k ≡ true) (λ k. is_before offers w k ≡ false) places n
+IsSplit offers places w n = IsSplitBy key_by key_cmp offers places w n
 
 -- the places of all offers, in that order
-pub record IsOfferOrder (offers : List Offer) (places : List ℕ) : Type 0 where
-  pub all : (k : ℕ) → k < length offers → Contains places k
-  pub within : (k : ℕ) → Contains places k → k < length offers
-  pub sorted : IsSorted (place_cmp offers) places
-
--- the places of all offers of a row's declaration, if it has one
-abbrev pub IsOfferIndex : Row → List ℕ → Type 0
-IsOfferIndex r places = (d : Decl) → r.decl ≡ Some d → IsOfferOrder d.offers places
+abbrev pub IsOfferOrder : List Offer → List ℕ → Type 0
+IsOfferOrder offers places = IsOrderBy key_by key_cmp offers places

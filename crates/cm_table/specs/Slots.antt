@@ -1,5 +1,6 @@
 -- Inside.
--- Rows in slots, in blocks, with the indexes of their children.
+-- Rows in slots, slots in blocks. A slot has a row, the index of its children, and what is kept of
+-- marks.
 use Rattle.std.specs.Prelude.{◌≡◌, ℕ, ◌≤◌, ◌+◌, ◌==◌, List, [], Option, Some, None, find, filter, map}
 use Rattle.std.specs.Prelude.{option_map}
 use Rattle.std.specs.List.{flat_map}

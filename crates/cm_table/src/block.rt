@@ -8,10 +8,12 @@ ghost use Rattle.cm_world.specs.Edits.{edit_first, drop_first};
 ghost use Rattle.cm_table.specs.Change.{change_row};
 ghost use Rattle.cm_table.specs.Keys.{IsItemAt, IsPlace, Filled, Increasing, alone, first_key};
 ghost use Rattle.cm_table.specs.Keys.{reaches, AreFilledBut};
+ghost use Rattle.cm_table.specs.Marking.{flagged};
 ghost use Rattle.cm_table.specs.Slots.{inc_of, slot_of, flat, slots_in, indexed_by, with_row_by};
 ghost use Rattle.cm_table.specs.declared.slot.Slot.{Slot as OneSlot};
 
 use crate::change::Change;
+use crate::marks::MarkKind;
 use crate::slot::{ChildIndex, Slot};
 use std::mem::swap;
 
@@ -271,6 +273,41 @@ pub fn change_in(blocks: &mut Vec<RowBlock>, inc: u64, new: Change)
     match place_in(blocks.as_slice(), inc) {
         None => drop(new),
         Some(place) => change_at(&mut blocks[place], inc, new),
+    }
+}
+
+// ---- marks
+
+/// Sets the flag of that kind in the marks of the slot.
+fn mark(slot: &mut Slot, kind: MarkKind)
+    ensures { slot.new ≡ flagged kind slot.old }
+{
+    slot.marks.put(kind);
+}
+
+/// Flags the slot of that incarnation, among slots by increasing ones.
+fn mark_at(block: &mut RowBlock, inc: u64, kind: MarkKind)
+    requires { Increasing inc_of block.old.slots.items }
+    ensures { block.new.slots.items
+        ≡ edit_first (λ (s : OneSlot). s.row.inc == inc) (flagged kind) block.old.slots.items }
+{
+    if let Some(place) = place_at(block.slots.as_slice(), inc) {
+        mark(&mut block.slots[place], kind);
+    }
+}
+
+/// Flags the slot of that incarnation.
+pub fn mark_in(blocks: &mut Vec<RowBlock>, inc: u64, kind: MarkKind)
+    requires filled { Filled slots_in blocks.old.items }
+    requires increasing { Increasing inc_of (flat blocks.old.items) }
+    ensures slots { flat blocks.new.items
+        ≡ edit_first (λ (s : OneSlot). s.row.inc == inc) (flagged kind) (flat blocks.old.items) }
+    ensures filled { Filled slots_in blocks.new.items }
+    ensures len { length blocks.new.items ≡ length blocks.old.items }
+    ensures capacity { vec_capacity blocks.new ≡ vec_capacity blocks.old }
+{
+    if let Some(place) = place_in(blocks.as_slice(), inc) {
+        mark_at(&mut blocks[place], inc, kind);
     }
 }
 

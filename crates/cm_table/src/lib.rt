@@ -9,20 +9,27 @@
 //! limit of instances, and that a resolve takes its memory beforehand are this project's own
 //! choice.
 //!
-//! A row is found by its incarnation in a logarithm of the number of rows, and so are a child by
-//! its name and the next child: rows stand in blocks by increasing incarnations, which are searched by
+//! A row is found by its incarnation in a logarithm of the number of rows, and so are a child by its
+//! name and the next child: rows stand in blocks by increasing incarnations, which are searched by
 //! bisection where a row isn't at the place that is tried first, and each row has an index of its
-//! children beside it. An offer is found by its target, its
-//! name there and its kind in a logarithm of the number of offers, since an order of them is made
-//! with each declaration before it is taken over. A resolve takes no memory and goes
-//! through the children that it brings; a removal goes down by last children, and takes a
-//! logarithm for each row, and the time to close the gap in the lists. Names are kept by an order
-//! and not by a hash: no choice of names can make a look-up slow.
+//! children beside it. Where a declaration has many rows of one sort, an offer is found by its target,
+//! its name there and its kind, a use by its path, and an expose and a capability by their names and
+//! kinds, each in a logarithm of their number, since an order of them is made before the declaration is
+//! taken over. A resolve takes no memory and goes through the children that it brings; a removal goes
+//! down by last children, and takes a logarithm for each row, and the time to close the gap in the
+//! lists. Names are kept by an order and not by a hash: no choice of names can make a look-up slow.
+//!
+//! Each row keeps which marks it and those above it have, and the names from the root down to it. So
+//! whether an instance is gone, and where it stands, is told by one look, at any depth. A mark goes to
+//! each row at most once.
 #![tactic(auto)]
 
 mod block;
 mod change;
 mod links;
+mod marking;
+mod marks;
+mod named;
 mod offers;
 mod ordered;
 pub mod prepared;
@@ -30,7 +37,9 @@ mod reading;
 mod slot;
 mod store;
 pub mod table;
+mod uses;
 mod view;
+mod wanted;
 
 pub use prepared::Prepared;
 pub use table::{Settled, Table, TableFault};

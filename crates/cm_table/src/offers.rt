@@ -31,8 +31,8 @@ pub fn order_of(alloc: Global, offers: &[Offer]) -> Result<Vec<usize>, Memory>
     Ok(places)
 }
 
-/// So many places, from 0 on.
-fn first_places(alloc: Global, count: usize) -> Result<Vec<usize>, Memory>
+/// The places from 0 to below the count, in order. They are sorted afterwards.
+pub fn first_places(alloc: Global, count: usize) -> Result<Vec<usize>, Memory>
     ensures { IfOk result (λ made. made.items ≡ range_with_len 0 count) }
 {
     let places: Vec<usize> = (0..count).collect(alloc)?;
@@ -58,8 +58,18 @@ pub fn find_offer(
     None
 }
 
+/// The place of the first such offer, found by going through all offers from the first on, where no
+/// order of them is kept.
+pub fn search_offer(offers: &[Offer], child: &ChildName, kind: Kind, name: &Name) -> Option<usize>
+    ensures { result ≡ position (next.is_offer_to child.now kind name.now) offers.now }
+{
+    offers
+        .iter()
+        .position(|offer| is_offer_to(offer, child, kind, name))
+}
+
 /// The place there, if there is one.
-fn place_at(places: &[usize], index: usize) -> Option<usize>
+pub fn place_at(places: &[usize], index: usize) -> Option<usize>
     ensures { result ≡ slice_get places.now index }
 {
     match places.get(index) {
@@ -119,7 +129,7 @@ fn compare_keys(a: &OfferLookup<'_>, b: &OfferLookup<'_>) -> Ordering
         .then(a.kind.cmp(&b.kind))
 }
 
-/// The order of places.
+/// How the offers at two places compare, by their keys. Sorts the places.
 fn compare(offers: &[Offer], a: usize, b: usize) -> Ordering
     ensures { result ≡ spec.place_cmp offers.now a b }
 {
@@ -134,7 +144,7 @@ fn is_before(offers: &[Offer], place: usize, wanted: &OfferLookup<'_>) -> bool
 }
 
 /// The rank of a kind in the order of kinds.
-fn rank(kind: Kind) -> u8
+pub fn rank(kind: Kind) -> u8
     ensures { result ≡ spec.kind_rank kind }
 {
     match kind {

@@ -12,8 +12,9 @@ ghost use Rattle.cm_table.specs.Keys.{EachItem, IsPlace, Increasing, alone, nth}
 ghost use Rattle.cm_table.specs.Slots.{kids_at, named_at, kids_of, named_in};
 ghost use Rattle.cm_table.specs.Links.{unless, Rises};
 
+use crate::marks::MarksAbove;
 use crate::ordered::OrderedRow;
-use cm_names::{ChildName, Memory};
+use cm_names::{ChildName, Memory, Moniker};
 use std::alloc::Global;
 use std::collections::BTreeMap;
 
@@ -29,13 +30,18 @@ pub struct ChildIndex {
     pub names: BTreeMap<ChildName, u64>,
 }
 
-/// A row with the index of its children, if it ever had one.
+/// A row with the index of its children, if it ever had one, the marks that it and those above it have,
+/// and where it stands.
 #[derive(Drop)]
 pub struct Slot {
     /// The row.
     pub row: OrderedRow,
     /// The index of its children.
     pub index: Option<ChildIndex>,
+    /// Which marks it or one above it has.
+    pub marks: MarksAbove,
+    /// The names from the root down to it, if they are kept. They share those of the row above.
+    pub moniker: Option<Moniker>,
 }
 
 impl Slot {

@@ -7,7 +7,8 @@ ghost use Rattle.std.specs.Prelude.{option_and_then};
 ghost use Rattle.std.specs.Option.{option_copied};
 ghost use Rattle.std.specs.Vec.{vec_capacity};
 ghost use Rattle.cm_world.specs.Edits.{drop_first};
-ghost use Rattle.cm_world.specs.Rows.{row_of, is_live, is_resolved, decl_of, child_of};
+ghost use Rattle.cm_world.specs.Rows.{row_of, is_live, is_resolved, decl_of, child_of, some_above};
+ghost use Rattle.cm_world.specs.Rows.{moniker_of};
 ghost use Rattle.cm_world.specs.RowsInside.{child_behind};
 ghost use Rattle.cm_world.specs.Sound.{IsOrderly};
 ghost use Rattle.cm_world.specs.World.{root_row, new_row};
@@ -17,6 +18,8 @@ ghost use Rattle.cm_world.specs.After.{others_than};
 ghost use Rattle.cm_table.specs.Tree.{fit, first_tree};
 ghost use Rattle.cm_table.specs.Change.{change_row, IsSafe, IsSparing, resolved, next_by, with_changed};
 ghost use Rattle.cm_table.specs.Change.{with_row};
+ghost use Rattle.cm_table.specs.Flags.{flag_in, has_mark};
+ghost use Rattle.cm_table.specs.Monikers.{IsChildMoniker};
 ghost use Rattle.cm_table.specs.Slots.{IsIndexed};
 ghost use Rattle.cm_table.specs.Numbering.{bare_slot};
 ghost use Rattle.cm_table.specs.Leaf.{IsWithin, IsLeaf, IsChildOf, Continues, HaveSameOthers};
@@ -25,13 +28,17 @@ ghost use Rattle.cm_table.specs.Refusal.{RefusesRow};
 use crate::block::{RowBlock, change_in, push_block, remove_in, slot_in, swap_in};
 use crate::change::Change;
 use crate::links::{link, parent_in, unlink};
+use crate::marking::mark_below;
+use crate::marks::{MarkKind, MarksAbove};
 use crate::ordered::OrderedRow;
 use crate::prepared::{Prepared, PreparedParts};
 use crate::slot::{Slot, last_in};
+use crate::wanted::want_all;
 use cm_decl::Give;
-use cm_names::{ChildName, List, Memory, Shared, Text};
+use cm_names::{ChildName, List, Memory, Moniker, Shared, Text};
 use cm_world::{ActKind, Builtin, Finish, Outcome, Row};
 use std::alloc::Global;
+use std::collections::BTreeSet;
 use std::marker::Model;
 
 /// Why a row isn't added.
@@ -67,6 +74,7 @@ pub struct Table {
     next_inc: u64,
     limit: u32,
     spare: u32,
+    pub(crate) wanted: BTreeSet<ChildName>,
 }
 
 impl Model for Table {
@@ -93,7 +101,8 @@ impl Table {
         ensures { IfOk result (λ made. made ≡ first_tree url builtins limit) }
     {
         let mut blocks = Vec::new(alloc);
-        let slots = slots_of(alloc, root(alloc, url))?;
+        let moniker = Some(Moniker::root(alloc));
+        let slots = slots_of(alloc, root(alloc, url), MarksAbove::none(), moniker)?;
         blocks.push(RowBlock { slots })?;
         Ok(Table {
             blocks,
@@ -102,6 +111,7 @@ impl Table {
             next_inc: 1,
             limit,
             spare: 0,
+            wanted: BTreeSet::new(alloc),
         })
     }
 
@@ -204,8 +214,10 @@ impl Table {
         ensures rows { self.new ≡ resolved inc prepared self.old }
         ensures finish { result ≡ Finish.Resolved prepared.absolute prepared.decl }
     {
+        let marks = self.marks_above(inc);
         let count = prepared.count();
-        let parts = prepared.into_parts(inc, self.next_inc);
+        let above = self.kept_moniker(inc);
+        let parts = prepared.into_parts(inc, self.next_inc, marks, above);
         let PreparedParts {
             finish,
             absolute,
@@ -282,13 +294,16 @@ impl Table {
     pub fn set_closing(&mut self, inc: u64)
         ensures { self.new ≡ with_changed inc set_closing self.old }
     {
-        self.change(inc, Change::Closing);
+        mark_below(&mut self.blocks, MarkKind::Closing, self.next_inc, inc);
+        change_in(&mut self.blocks, inc, Change::Closing);
     }
 
     /// Marks an instance to be destroyed, if it lives. It is marked to be shut down with that.
     pub fn set_doomed(&mut self, inc: u64)
         ensures { self.new ≡ with_changed inc set_doomed self.old }
     {
+        mark_below(&mut self.blocks, MarkKind::Closing, self.next_inc, inc);
+        mark_below(&mut self.blocks, MarkKind::Doomed, self.next_inc, inc);
         unlink(&mut self.blocks, inc, false);
         change_in(&mut self.blocks, inc, Change::Doomed);
     }
@@ -334,7 +349,7 @@ impl Table {
         if !self.fits(1) {
             return Err(TableFault::Full);
         }
-        let inc = self.next_inc;
+        let marks = self.marks_above(parent);
         let key = match name.clone() {
             Ok(key) => key,
             Err(_) => return Err(TableFault::Memory),
@@ -343,8 +358,17 @@ impl Table {
             Ok(name) => name,
             Err(_) => return Err(TableFault::Memory),
         };
+        let moniker = match self.moniker_below(alloc, parent, &name) {
+            Ok(moniker) => moniker,
+            Err(Memory) => return Err(TableFault::Memory),
+        };
+        match want_all(&mut self.wanted, gives.as_slice()) {
+            Ok(()) => {}
+            Err(Memory) => return Err(TableFault::Memory),
+        }
+        let inc = self.next_inc;
         let row = child_row(inc, parent, name, url, gives);
-        let slots = match room_for(alloc, &mut self.blocks, self.spare, row) {
+        let slots = match room_for(alloc, &mut self.blocks, self.spare, row, marks, moniker) {
             Ok(slots) => slots,
             Err(Memory) => return Err(TableFault::Memory),
         };
@@ -434,6 +458,43 @@ impl Table {
         }
     }
 
+    /// Which marks the instance or one above it has; none where it doesn't live.
+    pub(crate) fn marks_above(&self, inc: u64) -> MarksAbove
+        ensures { (k : MarkKind) → flag_in k result ≡ some_above (has_mark k) self.now.rows inc }
+    {
+        match slot_in(self.blocks.as_slice(), inc) {
+            None => MarksAbove::none(),
+            Some(slot) => slot.marks,
+        }
+    }
+
+    /// The names from the root down to the instance, if they are kept. `None` says nothing.
+    pub(crate) fn kept_moniker(&self, inc: u64) -> Option<&Moniker>
+        ensures { IfSome result (λ m. m.now ≡ moniker_of self.now.rows inc) }
+    {
+        match slot_in(self.blocks.as_slice(), inc) {
+            None => None,
+            Some(slot) => slot.moniker.as_ref(),
+        }
+    }
+
+    /// The names from the root down to a child of that name, if those down to its parent are kept. `Err`
+    /// where memory runs out.
+    fn moniker_below(
+        &self,
+        alloc: Global,
+        parent: u64,
+        name: &Shared<ChildName>,
+    ) -> Result<Option<Moniker>, Memory>
+        ensures { IfOk result (IsChildMoniker self.now.rows parent name.now) }
+    {
+        let Some(above) = self.kept_moniker(parent) else {
+            return Ok(None);
+        };
+        let parts = above.parts.with(alloc, name.clone()?)?;
+        Ok(Some(Moniker { parts }))
+    }
+
     /// The slot of that incarnation.
     #[inline(always)]
     pub(crate) fn slot(&self, inc: u64) -> Option<&Slot>
@@ -446,31 +507,43 @@ impl Table {
     }
 }
 
-/// The slots of one row, which has no index.
-fn slots_of(alloc: Global, row: Row) -> Result<Vec<Slot>, Memory>
+/// The slots of one row, which has no index, with these marks and this moniker.
+fn slots_of(
+    alloc: Global,
+    row: Row,
+    marks: MarksAbove,
+    moniker: Option<Moniker>,
+) -> Result<Vec<Slot>, Memory>
     requires { row.decl ≡ None }
-    ensures { IfOk result (λ made. made.items ≡ bare_slot row ∷ []) }
+    ensures { IfOk result (λ made. made.items ≡ bare_slot row marks moniker ∷ []) }
 {
     let mut slots = Vec::new(alloc);
-    let row = OrderedRow::new(alloc, row);
-    slots.push(Slot { row, index: None })?;
+    let row = OrderedRow::new(row);
+    slots.push(Slot {
+        row,
+        index: None,
+        marks,
+        moniker,
+    })?;
     Ok(slots)
 }
 
-/// The slots of one row, with room for one block more than the spare ones.
+/// The slots of one row with these marks and this moniker, with room for one block more than the spare ones.
 fn room_for(
     alloc: Global,
     blocks: &mut Vec<RowBlock>,
     spare: u32,
     row: Row,
+    marks: MarksAbove,
+    moniker: Option<Moniker>,
 ) -> Result<Vec<Slot>, Memory>
     requires { row.decl ≡ None }
-    ensures made { IfOk result (λ made. made.items ≡ bare_slot row ∷ []) }
+    ensures made { IfOk result (λ made. made.items ≡ bare_slot row marks moniker ∷ []) }
     ensures same { blocks.new.items ≡ blocks.old.items }
     ensures room { OnOk result (length blocks.new.items + spare + 1 ≤ vec_capacity blocks.new) }
     ensures later { vec_capacity blocks.old ≤ vec_capacity blocks.new }
 {
-    let slots = slots_of(alloc, row)?;
+    let slots = slots_of(alloc, row, marks, moniker)?;
     blocks.reserve(spare as usize + 1)?;
     Ok(slots)
 }

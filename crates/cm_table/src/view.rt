@@ -11,7 +11,7 @@ use crate::reading::{is_that, told_index};
 use crate::slot::{child_in, next_in};
 use crate::table::Table;
 use cm_decl::{Decl, Give, Kind};
-use cm_names::{ChildName, List, Name};
+use cm_names::{CapPath, ChildName, List, Moniker, Name};
 use cm_world::{Builtin, Facts, ParentPlace, Row, View};
 
 impl View for Table {
@@ -21,6 +21,8 @@ impl View for Table {
 
     ghost builtins = { λ (t : Tree). t.builtins };
 
+    /// What the deciders ask of the row besides its rows of declarations; `None` where the instance
+    /// doesn't live.
     #[inline(always)]
     fn facts(&self, inc: u64) -> Option<Facts> {
         match self.slot(inc) {
@@ -29,6 +31,22 @@ impl View for Table {
         }
     }
 
+    /// Whether the instance or one above it is being shut down, read from the marks kept with its row.
+    fn closing_above(&self, inc: u64) -> bool {
+        self.marks_above(inc).closing
+    }
+
+    /// Whether the instance or one above it is being destroyed, read from the marks kept with its row.
+    fn doomed_above(&self, inc: u64) -> bool {
+        self.marks_above(inc).doomed
+    }
+
+    /// The moniker that is kept with the row, if one is.
+    fn moniker_at(&self, inc: u64) -> Option<&Moniker> {
+        self.kept_moniker(inc)
+    }
+
+    /// The name of the instance under its parent; the root has none.
     fn name(&self, inc: u64) -> Option<&ChildName> {
         match self.slot(inc) {
             None => None,
@@ -36,6 +54,7 @@ impl View for Table {
         }
     }
 
+    /// The parent of the instance and the name there; `None` for the root.
     fn place(&self, inc: u64) -> Option<ParentPlace<'_>> {
         let _builtins = &self.builtins;
         if inc == 0 {
@@ -47,6 +66,7 @@ impl View for Table {
         }
     }
 
+    /// The declaration that the instance was resolved to, if it was.
     fn decl(&self, inc: u64) -> Option<&Decl> {
         match self.slot(inc) {
             None => None,
@@ -57,6 +77,7 @@ impl View for Table {
         }
     }
 
+    /// What was given to the instance when it was created.
     fn gives(&self, inc: u64) -> Option<&List<Give>> {
         match self.slot(inc) {
             None => None,
@@ -64,6 +85,7 @@ impl View for Table {
         }
     }
 
+    /// The child of that name, found in the index of the parent's children.
     fn child(&self, parent: u64, name: &ChildName) -> Option<u64> {
         match self.slot(parent) {
             None => None,
@@ -71,6 +93,7 @@ impl View for Table {
         }
     }
 
+    /// The first child after the given incarnation, or the first of all.
     fn next_child(&self, parent: u64, after: Option<u64>) -> Option<u64> {
         match self.slot(parent) {
             None => None,
@@ -78,6 +101,7 @@ impl View for Table {
         }
     }
 
+    /// The place, in the parent's declaration, of the offer to the instance of that kind and name.
     fn offer_at(&self, inc: u64, kind: Kind, name: &Name) -> Option<u32> {
         let Some(slot) = self.slot(inc) else {
             return None;
@@ -88,6 +112,45 @@ impl View for Table {
         }
     }
 
+    /// The place of the use of that path in the instance's declaration.
+    fn use_at(&self, inc: u64, path: &CapPath) -> Option<u32> {
+        let Some(slot) = self.slot(inc) else {
+            return None;
+        };
+        match slot.row.usage(path) {
+            None => None,
+            Some(place) => Some(told_index(place)),
+        }
+    }
+
+    /// The place of the expose of that kind and target name in the instance's declaration.
+    fn expose_at(&self, inc: u64, kind: Kind, name: &Name) -> Option<u32> {
+        let Some(slot) = self.slot(inc) else {
+            return None;
+        };
+        match slot.row.expose(kind, name) {
+            None => None,
+            Some(place) => Some(told_index(place)),
+        }
+    }
+
+    /// The place of the capability of that kind and name in the instance's declaration.
+    fn capability_at(&self, inc: u64, kind: Kind, name: &Name) -> Option<u32> {
+        let Some(slot) = self.slot(inc) else {
+            return None;
+        };
+        match slot.row.capability(kind, name) {
+            None => None,
+            Some(place) => Some(told_index(place)),
+        }
+    }
+
+    /// Whether the name is among those from which something given at a creation may come strongly.
+    fn is_wanted(&self, name: &ChildName) -> bool {
+        self.wanted.contains(name)
+    }
+
+    /// The first of the realm's built-in capabilities that has that kind and name.
     fn builtin(&self, kind: Kind, name: &Name) -> Option<&Builtin> {
         self.builtins
             .as_slice()

@@ -1,4 +1,3 @@
-pub mod Marks
 pub mod Ahead
 pub mod Laws
 pub mod Walking

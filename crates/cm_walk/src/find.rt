@@ -7,12 +7,25 @@ ghost use Rattle.cm_decl.specs.Graph.{target_of};
 ghost use Rattle.cm_decl.specs.Same as same;
 ghost use Rattle.cm_world.specs.NextStation as spec;
 ghost use Rattle.cm_world.specs.Offering.{offer_index, told_index};
+ghost use Rattle.cm_world.specs.RowsInside.{use_index, expose_index, capability_index};
 
 use cm_decl::{Capability, Decl, Give, Kind, Offer, Usage};
 use cm_names::{CapPath, ChildName, Name};
 
+/// The first use of that path, if its index is told as this one. Which one an index of 2^32 - 1
+/// tells has to be looked for.
+pub(crate) fn usage<'a>(decl: &'a Decl, path: &CapPath, index: u32) -> Option<&'a Usage>
+    ensures { option_map told_index (use_index decl.now path.now) ≡ Some index
+        → option_copied result ≡ find (λ u. bytes_eq u.path path.now) decl.now.uses }
+{
+    if index < u32::MAX {
+        return decl.uses.get(index as usize);
+    }
+    search_use(decl, path)
+}
+
 /// The first use of that path.
-pub(crate) fn usage<'a>(decl: &'a Decl, path: &CapPath) -> Option<&'a Usage>
+fn search_use<'a>(decl: &'a Decl, path: &CapPath) -> Option<&'a Usage>
     ensures { option_copied result ≡ find (λ u. bytes_eq u.path path.now) decl.now.uses }
 {
     decl.uses
@@ -38,8 +51,37 @@ pub(crate) fn give<'a>(gives: &'a [Give], kind: Kind, name: &Name) -> Option<&'a
     gives.iter().find(|give| is_kind(give.kind, kind) && give.target_name.as_str() == name.as_str())
 }
 
+/// The first expose of that kind and target name, if its index is told as this one. Which one an
+/// index of 2^32 - 1 tells has to be looked for.
+pub(crate) fn exposed<'a>(decl: &'a Decl, kind: Kind, name: &Name, index: u32) -> Option<&'a Give>
+    ensures { option_map told_index (expose_index decl.now kind name.now) ≡ Some index
+        → option_copied result ≡ spec.give_of decl.now.exposes kind name.now }
+{
+    if index < u32::MAX {
+        return decl.exposes.get(index as usize);
+    }
+    give(decl.exposes.as_slice(), kind, name)
+}
+
+/// The first capability of that kind and name, if its index is told as this one. Which one an index
+/// of 2^32 - 1 tells has to be looked for.
+pub(crate) fn capability<'a>(
+    decl: &'a Decl,
+    kind: Kind,
+    name: &Name,
+    index: u32,
+) -> Option<&'a Capability>
+    ensures { option_map told_index (capability_index decl.now kind name.now) ≡ Some index
+        → option_copied result ≡ spec.capability_of decl.now kind name.now }
+{
+    if index < u32::MAX {
+        return decl.capabilities.get(index as usize);
+    }
+    search_capability(decl, kind, name)
+}
+
 /// The first capability of that kind and name.
-pub(crate) fn capability<'a>(decl: &'a Decl, kind: Kind, name: &Name) -> Option<&'a Capability>
+fn search_capability<'a>(decl: &'a Decl, kind: Kind, name: &Name) -> Option<&'a Capability>
     ensures { option_copied result ≡ spec.capability_of decl.now kind name.now }
 {
     decl.capabilities.as_slice().iter().find(|capability| is_kind(capability.kind, kind)

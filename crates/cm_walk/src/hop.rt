@@ -7,7 +7,7 @@ ghost use Rattle.cm_world.specs.Stations as spec;
 ghost use Rattle.cm_walk.specs.Walking.{IsHopPlaced};
 
 use cm_decl::Kind;
-use cm_names::{List, Memory, Moniker, Name};
+use cm_names::{Chain, List, Memory, Moniker, Name};
 use cm_world::{Hop, StepKind, View};
 use std::alloc::Global;
 
@@ -19,6 +19,16 @@ const FIRST_ROOM: usize = 8;
 pub fn moniker<V: View>(alloc: Global, view: &V, inc: u64) -> Result<Moniker, Memory>
     ensures { IfOk result (λ made. made ≡ moniker_of (V.rows view.now) inc) }
 {
+    match view.moniker_at(inc) {
+        Some(kept) => Ok(kept.clone()?),
+        None => names_up(alloc, view, inc),
+    }
+}
+
+/// The moniker of an instance for which none is kept, made of the names on the way up to the root.
+fn names_up<V: View>(alloc: Global, view: &V, inc: u64) -> Result<Moniker, Memory>
+    ensures { IfOk result (λ made. made ≡ moniker_of (V.rows view.now) inc) }
+{
     let mut names = Vec::with_capacity(alloc, FIRST_ROOM)?;
     let mut at = inc;
     'up: while let Some(place) = view.place(at) {
@@ -27,7 +37,7 @@ pub fn moniker<V: View>(alloc: Global, view: &V, inc: u64) -> Result<Moniker, Me
     }
     names.reverse();
     Ok(Moniker {
-        parts: List::from_vec(names),
+        parts: Chain::from_list(List::from_vec(names)),
     })
 }
 
@@ -56,11 +66,9 @@ pub(crate) fn moniker_above<V: View>(
         option_and_then (λ r. r.parent) row ≡ Some parent }
     ensures { IfOk result (λ made. made ≡ moniker_of (V.rows view.now) parent) }
 {
-    let parts = here.moniker.parts.as_slice();
-    let prefix = &parts[..parts.len().saturating_sub(1)];
-    Ok(Moniker {
-        parts: List::from_vec(prefix.to_vec(alloc)?),
-    })
+    let parts = &here.moniker.parts;
+    let above = parts.upto(alloc, parts.len().saturating_sub(1))?;
+    Ok(Moniker { parts: above })
 }
 
 /// A hop at the instance, which stands there, that no row of a declaration states: it states no

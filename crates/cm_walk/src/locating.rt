@@ -25,11 +25,11 @@ pub fn locate<L: Ledger, S: Store<L>>(
     ensures cost { steps.new ≤ steps.old + 2 * length moniker.now.parts }
 {
     let mut at = 0;
-    for (depth, name) in moniker.parts.as_slice().iter().enumerate() {
+    for depth in 0..moniker.parts.len() {
         if !store.is_resolved(at, steps) {
             return Located::Unresolved(at);
         }
-        match store.child(at, name.get(), steps) {
+        match store.child(at, moniker.parts.at(depth).get(), steps) {
             None => return Located::Missing(told_index(depth)),
             Some(next) => at = next,
         }

@@ -15,7 +15,7 @@ use crate::station::{
     HopStation, StationSource, builtin_station, capability_station, expose_station,
     framework_station, offer_station,
 };
-use cm_decl::{Decl, Give, Kind, Offer, Origin};
+use cm_decl::{Capability, Decl, Give, Kind, Offer, Origin};
 use cm_names::{CapPath, ChildName, Memory, Name};
 use cm_world::{Hop, StepKind, View, Why};
 use std::alloc::Global;
@@ -206,7 +206,7 @@ fn name_at<'a, V: View>(view: &'a V, parent: u64, here: &'a Hop) -> Option<&'a C
         option_and_then (λ r. r.parent) row ≡ Some parent }
     ensures { option_copied result ≡ name_of (V.rows view.now) here.now.inc }
 {
-    match here.moniker.parts.as_slice().last() {
+    match here.moniker.parts.last() {
         Some(name) => Some(name.get()),
         None => view.name(here.inc),
     }
@@ -247,7 +247,7 @@ fn below<'a, V: View>(
         return Ok(NextOnWalk::Needs(inc));
     };
     let moniker = moniker(alloc, view, inc)?;
-    match find::give(decl.exposes.as_slice(), kind, name) {
+    match exposed(view, decl, inc, kind, name) {
         Some(give) => {
             let station = expose_station(view, inc, moniker, give)?;
             Ok(NextOnWalk::To(station))
@@ -270,7 +270,7 @@ fn own<'a, V: View>(view: &'a V, here: &Hop, name: &'a Name) -> Result<NextOnWal
     let Some(decl) = view.decl(here.inc) else {
         return Ok(NextOnWalk::NoChild);
     };
-    match find::capability(decl, here.kind, name) {
+    match provided(view, decl, here.inc, here.kind, name) {
         Some(capability) => {
             let moniker = here.moniker.clone()?;
             let station = capability_station(view, here.inc, moniker, capability)?;
@@ -278,4 +278,34 @@ fn own<'a, V: View>(view: &'a V, here: &Hop, name: &'a Name) -> Result<NextOnWal
         }
         None => Ok(NextOnWalk::NoChild),
     }
+}
+
+/// The expose of that kind and name by the instance, which has this declaration.
+fn exposed<'a, V: View>(
+    view: &V,
+    decl: &'a Decl,
+    inc: u64,
+    kind: Kind,
+    name: &Name,
+) -> Option<&'a Give>
+    requires { decl_of (V.rows view.now) inc ≡ Some decl.now }
+    ensures { option_copied result ≡ spec.give_of decl.now.exposes kind name.now }
+{
+    let index = view.expose_at(inc, kind, name)?;
+    find::exposed(decl, kind, name, index)
+}
+
+/// The capability of that kind and name of the instance, which has this declaration.
+fn provided<'a, V: View>(
+    view: &V,
+    decl: &'a Decl,
+    inc: u64,
+    kind: Kind,
+    name: &Name,
+) -> Option<&'a Capability>
+    requires { decl_of (V.rows view.now) inc ≡ Some decl.now }
+    ensures { option_copied result ≡ spec.capability_of decl.now kind name.now }
+{
+    let index = view.capability_at(inc, kind, name)?;
+    find::capability(decl, kind, name, index)
 }

@@ -1,10 +1,13 @@
 //! The walk from hop to hop.
 
-ghost use Rattle.std.specs.Prelude.{◌≡◌, List as Seq, IfOk, option_map};
+ghost use Rattle.std.specs.Prelude.{◌≡◌, List as Seq, Some, IfOk, find, option_map};
+ghost use Rattle.std.specs.Option.{option_copied};
+ghost use Rattle.std.specs.Str.{bytes_eq};
 ghost use Rattle.cm_world.specs.declared.route.Walked.TheVariants as walked;
 ghost use Rattle.cm_walk.specs.declared.walking.Step.TheVariants as step;
 ghost use Rattle.cm_world.specs.NextStation as to;
 ghost use Rattle.cm_world.specs.Route as spec;
+ghost use Rattle.cm_world.specs.Rows.{decl_of};
 ghost use Rattle.cm_world.specs.Stations.{Station as Place};
 ghost use Rattle.cm_world.specs.Sound.{IsOrderly};
 ghost use Rattle.cm_world.specs.Ending.{KeepsDown};
@@ -17,7 +20,7 @@ use crate::hop::{bare_hop, moniker};
 use crate::next::{NextOnWalk, next_of};
 use crate::station::{HopStation, expose_station, offer_station, use_station};
 use crate::trail::Trail;
-use cm_decl::Kind;
+use cm_decl::{Decl, Kind, Usage};
 use cm_names::{CapPath, Memory, Name, Shared};
 use cm_world::{Hop, Start, StepKind, View, Walked, Why};
 use std::alloc::Global;
@@ -123,7 +126,7 @@ fn begin_use<'a, V: View>(
     let Some(decl) = view.decl(inc) else {
         return Ok(Begun::NoUse);
     };
-    match find::usage(decl, path) {
+    match used(view, decl, inc, path) {
         Some(usage) => {
             let moniker = moniker(alloc, view, inc)?;
             let station = use_station(view, inc, moniker, usage)?;
@@ -131,6 +134,15 @@ fn begin_use<'a, V: View>(
         }
         None => Ok(Begun::NoUse),
     }
+}
+
+/// The first use of that path by the instance, which has this declaration.
+fn used<'a, V: View>(view: &V, decl: &'a Decl, inc: u64, path: &CapPath) -> Option<&'a Usage>
+    requires { decl_of (V.rows view.now) inc ≡ Some decl.now }
+    ensures { option_copied result ≡ find (λ u. bytes_eq u.path path.now) decl.now.uses }
+{
+    let index = view.use_at(inc, path)?;
+    find::usage(decl, path, index)
 }
 
 /// The offer at that index.

@@ -39,7 +39,7 @@ with_action w caller kind i = record w {
   acts = w.acts ++ new_act w.next_action kind i caller ∷ [];
 }
 
--- the world after the end of an action, whose record is given where the number was ever given out.
+-- the world behind the end of an action, whose record is given where the number was ever given out.
 -- The record names the row that changes; where the end stops that row, what expires with it is doomed
 abbrev pub with_end_of : World → ℕ → Finish → Outcome → Option Act → World
 with_end_of w a finish o None = w
@@ -49,7 +49,7 @@ with_end_of w a finish o (Some x) = record w {
   acts = ended a o w.acts;
 }
 
--- the world after the end of the action with this number
+-- the world behind the end of the action with this number
 abbrev pub with_end : World → ℕ → Finish → Outcome → World
 with_end w a finish o = with_end_of w a finish o (act_of w.acts a)
 

@@ -27,7 +27,7 @@ abbrev pub left_at : ℕ → ℕ → Bool → ℕ
 left_at next i true = (next - i) + 1
 left_at next i false = next + i + 2
 
--- a bound of the steps that are left after a hop; none where it has no source
+-- a bound of the steps that are left behind a hop; none where it has no source
 abbrev pub left_from : ℕ → ℕ → StepKind → Option Origin → ℕ
 left_from next i step None = 0
 left_from next i step (Some from) = left_at next i (is_expose step)

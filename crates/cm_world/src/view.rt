@@ -2,7 +2,7 @@
 
 use crate::{ActKind, Builtin};
 use cm_decl::{Decl, Give, Kind};
-use cm_names::{ChildName, List, Name, Shared};
+use cm_names::{CapPath, ChildName, List, Moniker, Name, Shared};
 
 /// What an instance is, but for its name, its declaration and what it was given.
 #[derive(Clone, Copy)]
@@ -32,12 +32,14 @@ pub struct ParentPlace<'a> {
 
 /// A realm tree that can be read: the rows and the builtins of an orderly world.
 pub trait View: Drop {
-    ghost use Rattle.std.specs.Prelude.{◌≡◌, ℕ, List as Seq, option_map, option_and_then};
+    ghost use Rattle.std.specs.Prelude.{◌≡◌, ℕ, List as Seq, false, IfSome, option_map, option_and_then};
     ghost use Rattle.std.specs.Option.{option_copied};
     ghost use Rattle.cm_world.specs.declared.frame.Builtin.{Builtin as Given};
     ghost use Rattle.cm_world.specs.declared.row.Row.{Row};
-    ghost use Rattle.cm_world.specs.Rows.{row_of, decl_of, child_of};
-    ghost use Rattle.cm_world.specs.RowsInside.{name_of, child_behind, facts_of};
+    ghost use Rattle.cm_world.specs.Rows.{row_of, decl_of, child_of, is_closing, some_above, moniker_of};
+    ghost use Rattle.cm_world.specs.RowsInside.{name_of, child_behind, facts_of, use_at as told_use};
+    ghost use Rattle.cm_world.specs.RowsInside.{expose_at as told_expose, capability_at as told_capability};
+    ghost use Rattle.cm_world.specs.RowsInside.{IsUnwanted};
     ghost use Rattle.cm_world.specs.NextStation.{builtin_of};
     ghost use Rattle.cm_world.specs.Offering as offering;
     ghost use Rattle.cm_world.specs.Sound.{IsOrderly};
@@ -55,6 +57,19 @@ pub trait View: Drop {
     fn facts(&self, inc: u64) -> Option<Facts>
         ensures facts { result ≡ option_map facts_of (row_of (rows self.now) inc) }
         ensures orderly { IsOrderly (rows self.now) (next_inc self.now) };
+
+    /// Whether the instance or one above it is marked to be shut down or destroyed; `false` where it
+    /// doesn't live.
+    fn closing_above(&self, inc: u64) -> bool
+        ensures { result ≡ is_closing (rows self.now) inc };
+
+    /// Whether the instance or one above it is marked to be destroyed; `false` where it doesn't live.
+    fn doomed_above(&self, inc: u64) -> bool
+        ensures { result ≡ some_above (λ r. r.doomed) (rows self.now) inc };
+
+    /// Where the instance stands: the names from the root down to it, if that is kept. `None` says nothing.
+    fn moniker_at(&self, inc: u64) -> Option<&Moniker>
+        ensures { IfSome result (λ m. m.now ≡ moniker_of (rows self.now) inc) };
 
     /// The name of the instance among the children of its parent, or `None` where it doesn't
     /// live or is the root.
@@ -93,6 +108,29 @@ pub trait View: Drop {
     /// and where its parent isn't resolved.
     fn offer_at(&self, inc: u64, kind: Kind, name: &Name) -> Option<u32>
         ensures { result ≡ offering.offer_at (rows self.now) inc kind name.now };
+
+    /// Where the first use with that path stands in the declaration of the instance, counted from
+    /// 0. An index above 2^32 - 1 is told as that. `None` exactly where there is none, and where the
+    /// instance doesn't live or isn't resolved.
+    fn use_at(&self, inc: u64, path: &CapPath) -> Option<u32>
+        ensures { result ≡ told_use (rows self.now) inc path.now };
+
+    /// Where the first expose of that kind and target name stands in the declaration of the
+    /// instance, told as the index of a use is. `None` exactly where there is none, and where the
+    /// instance doesn't live or isn't resolved.
+    fn expose_at(&self, inc: u64, kind: Kind, name: &Name) -> Option<u32>
+        ensures { result ≡ told_expose (rows self.now) inc kind name.now };
+
+    /// Where the first capability of that kind and name stands in the declaration of the instance,
+    /// told as the index of a use is. `None` exactly where there is none, and where the instance
+    /// doesn't live or isn't resolved.
+    fn capability_at(&self, inc: u64, kind: Kind, name: &Name) -> Option<u32>
+        ensures { result ≡ told_capability (rows self.now) inc kind name.now };
+
+    /// Whether something that an instance was given when it was created may come strongly from a
+    /// child of that name, whatever its parent. `false` says that nothing does.
+    fn is_wanted(&self, name: &ChildName) -> bool
+        ensures { result ≡ false → IsUnwanted (rows self.now) name.now };
 
     /// The first capability of that kind and name above the root, or `None` where there is none.
     fn builtin(&self, kind: Kind, name: &Name) -> Option<&Builtin>

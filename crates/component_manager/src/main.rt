@@ -2,23 +2,24 @@
 //! it generates or of links over a Unix socket, and says whether a manifest is valid.
 //!
 //! [`cm_program::run::run`] is the top call. `main` makes the standard streams, the door and the gates
-//! for it, and ends by [`ended`], which asks for what that very call promises. Where a place is told for the
-//! journal of a service, [`cm_keep`] keeps it there, before and after that call.
+//! for it, and ends by [`ended`], which asks for what that very call promises. What `main` gives is a
+//! [`ProgramStatus`], which is made of that, or where something is missing beside the run. Where a place is
+//! told for the journal of a service, [`cm_keep`] keeps it there, before and after that call.
 #![tactic(auto)]
 
-ghost use Rattle.std.specs.Prelude.{◌≡◌, IfOk, if◌then◌else◌, length, nat_eq};
+mod ending;
+
+ghost use Rattle.std.specs.Prelude.{◌≡◌, ◌⊎◌, IfOk, length};
 
 use cm_book::Book;
 use cm_gate::{FolderGates, Runner};
-use cm_io::{Door, Put, Reading, Sink, SocketDoor, Writing, put_all};
+use cm_io::{Door, Reading, Sink, SocketDoor, Writing};
 use cm_keep::{Keeping, Unkept, keep_service, keeping_of, try_keeping};
 use cm_names::{List, Memory, Text};
-use cm_program::closing::ended;
-use cm_program::out_of_memory;
 use cm_program::run::run;
+use ending::{ProgramStatus, ended};
 use std::alloc::{AllocError, Global};
 use std::io::ErrorKind;
-use std::process::ExitCode;
 use std::rt::Files;
 use std::sync::Wait;
 use std::thread::Threads;
@@ -134,21 +135,14 @@ fn keep_journal(
     keep_service(rt.alloc(), *rt, number, keeping, status, book)
 }
 
-/// The status of a run whose journal isn't kept, for which that other one is: its own, if it has one.
-fn status_after(status: u8, unkept: u8) -> u8
-    ensures { result ≡ if nat_eq status 0 then unkept else status }
+/// Says on the error stream why a journal isn't kept. The program ends so, unless its run had a status of
+/// its own.
+fn say<R: Threads + Wait + Sync, E: Sink>(rt: &R, err: &mut E, why: &Unkept) -> ProgramStatus
+    ensures { (result ≡ 4) ⊎ (result ≡ 6) }
 {
-    if status == 0 { unkept } else { status }
-}
-
-/// Says on the error stream why a journal isn't kept. The result is the status for that.
-fn say<R: Threads + Wait + Sync, E: Sink>(rt: &R, err: &mut E, why: &Unkept) -> u8 {
-    let Unkept::Said(line) = why else {
-        return out_of_memory(rt, err);
-    };
-    match put_all(rt, err, line.as_str().as_bytes()) {
-        Put::Done => 4,
-        Put::WriteFault(_) => 4,
+    match why {
+        Unkept::Said(line) => ProgramStatus::refused(rt, err, line.as_str().as_bytes()),
+        Unkept::Memory => ProgramStatus::out_of_memory(rt, err),
     }
 }
 
@@ -173,19 +167,19 @@ fn outside_of(
 }
 
 /// Runs the program once over the standard streams and a socket door, and ends with its status.
-fn main(rt: HostRuntime) -> ExitCode {
+fn main(rt: HostRuntime) -> ProgramStatus {
     let mut input = Reading::new(rt.stdin());
     let output = rt.stdout();
     let error = rt.stderr();
     let mut out = Writing::new(io::writer(&output));
     let mut err = Writing::new(io::writer(&error));
     let Ok(words) = words(&rt) else {
-        return ExitCode::from(out_of_memory(&rt, &mut err));
+        return ProgramStatus::out_of_memory(&rt, &mut err);
     };
     let asked = words.as_slice();
     let (gates, keeping) = match outside_of(rt, asked) {
         Ok(given) => given,
-        Err(why) => return ExitCode::from(say(&rt, &mut err, &why)),
+        Err(why) => return say(&rt, &mut err, &why),
     };
     let ran = run(
         &rt,
@@ -202,8 +196,8 @@ fn main(rt: HostRuntime) -> ExitCode {
     // The socket file would outlive the program.
     door.close();
     let Err(why) = kept else {
-        return ExitCode::from(status);
+        return status;
     };
     let mut err = Writing::new(io::writer(&error));
-    ExitCode::from(status_after(status, say(&rt, &mut err, &why)))
+    status.or(say(&rt, &mut err, &why))
 }

@@ -543,3 +543,27 @@ pub const GRAPHS: &str = "\
     == graph {children:[{name:'a',url:'u'}],use:[{protocol:'p',from:'#a'}]}\n\
     =>\n\
     order self a\n";
+
+/// What a history tells: of a child that is started and exits, and of the root that is started and killed; all
+/// of it, and what the entries behind the seventh tell of the child.
+pub const STREAMS: &str = "\
+    == events 9 99 tells ends and an exit\n\
+    0 resolve 0 @collection\n\
+    0 create 0 create . coll one #new\n\
+    0 resolve 1 {}\n\
+    0 started 1\n\
+    0 exited 1\n\
+    0 started 0\n\
+    0 killed 0\n\
+    --\n\
+    0 .\n\
+    7 coll:one\n\
+    12 .\n\
+    =>\n\
+    2 resolved . 0\n\
+    5 resolved coll:one 1\n\
+    7 started coll:one 1\n\
+    8 stopped coll:one 1\n\
+    10 started . 0\n\
+    12 stopped . 0\n\
+    8 stopped coll:one 1\n";

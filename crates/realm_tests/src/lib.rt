@@ -32,6 +32,8 @@ mod realms;
 #[cfg(test)]
 mod steps;
 #[cfg(test)]
+mod streams;
+#[cfg(test)]
 mod table;
 #[cfg(test)]
 mod walks;

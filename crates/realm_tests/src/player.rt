@@ -4,8 +4,10 @@
 //! A case begins with `== `, the word of what is played and a space. Then comes what is played, and
 //! after a line `=>` what has to be told of it, line by line.
 
-use crate::cases::{CALLERS, EXPIRIES, GRAPHS, KEPT, LIMITS, LOCATED, PICKS, SHUTDOWNS, WALKS};
-use crate::{graphs, locating, picks, realms, walks};
+use crate::cases::{
+    CALLERS, EXPIRIES, GRAPHS, KEPT, LIMITS, LOCATED, PICKS, SHUTDOWNS, STREAMS, WALKS,
+};
+use crate::{graphs, locating, picks, realms, streams, walks};
 use cm_names::{Memory, Text};
 use std::alloc::Global;
 use std::test::Fail;
@@ -53,6 +55,7 @@ fn told_of(alloc: Global, case: &str) -> Option<Text> {
         "locate" => locating::told(alloc, input),
         "graph" => graphs::told(alloc, input),
         "pick" => picks::told(alloc, input),
+        "events" => streams::told(alloc, input),
         _ => None,
     }
 }
@@ -69,6 +72,7 @@ fn table_of(number: u8) -> &'static str {
         6 => LOCATED,
         7 => GRAPHS,
         8 => PICKS,
+        9 => STREAMS,
         _ => "",
     }
 }
@@ -76,7 +80,7 @@ fn table_of(number: u8) -> &'static str {
 /// Each case of all tables is told as it says.
 #[test]
 fn cases_tell_what_they_should(rt: HostRuntime) -> Result<(), Fail> {
-    for number in 0..9 {
+    for number in 0..10 {
         let odd = odd_cases(rt.alloc(), table_of(number))?;
         assert!(rt; odd.is_empty(), "table {number}: {odd}");
     }

@@ -1,53 +1,62 @@
 -- What a quick look at a level finds.
-use Rattle.std.proofs.Common.{◌≡◌, ◌≢◌, ℕ, ◌<◌, List, Bool, true, false, not, ◌&&◌, Option, Some, None, IsTrue, is_none, true≢false, refl, sym, ◌∙◌, ap, subst, inl, inr, ◌⊎◌, arith}
-use Rattle.std.specs.List.{list_any}
+use Rattle.std.proofs.Common.{◌≡◌, ◌≢◌, ℕ, ◌<◌, List, [], ◌∷◌, Bool, true, false, not, ◌&&◌, Option, Some, None, IsTrue, is_none, true≢false, refl, sym, ◌∙◌, ap, subst, inl, inr, ◌⊎◌, arith}
 use Rattle.std.specs.Option.{option_map_or}
-use Rattle.std.specs.BTreeSet.{BTreeSet}
-use Rattle.cm_decl.specs.declared.decl.Decl.{Decl}
-use Rattle.cm_decl.specs.declared.rows.Usage.{Usage}
-use Rattle.cm_decl.specs.Graph.{is_strong, is_from_child}
+use Rattle.cm_decl.specs.Reach.{DependencyPath}
 use Rattle.cm_decl.specs.RealmGraph.{Depends}
 use Rattle.cm_decl.proofs.Sameness.{and_first, and_second, never}
 use Rattle.cm_world.specs.declared.row.Row.{Row}
-use Rattle.cm_world.specs.Rows.{row_of, decl_of, is_subtree_shut}
-use Rattle.cm_world.specs.RowsInside.{child_behind, is_behind}
+use Rattle.cm_world.specs.Rows.{row_of, is_subtree_shut}
+use Rattle.cm_world.specs.RowsInside.{child_behind}
 use Rattle.cm_world.specs.Level.{level}
+use Rattle.cm_world.specs.LevelInside.{LevelOn}
 use Rattle.cm_world.specs.Sound.{IsOrderly, IsSound}
 use Rattle.cm_world.specs.Stopping.{is_wholly_shut}
 use Rattle.cm_order.specs.declared.search.SearchGoal.TheVariants.{Idle}
 use Rattle.cm_order.specs.Kids.{IsKid}
 use Rattle.cm_order.specs.Search.{IsHere}
-use Rattle.cm_order.specs.Glances.{is_in_set, HasBound, IsFreeKid, AreKidsShut}
+use Rattle.cm_order.specs.declared.dependents.Dependents.{Dependents}
+use Rattle.cm_order.specs.Glances.{is_client, IsCleared, KnowsDependents, IsFreeKid, AreKidsShut}
 use Rattle.cm_order.specs.Plans.{AreShutSoFar}
 use Rattle.cm_order.proofs.trees.Trees.{kid_higher, below_kid, shut_each, shut_all, flip_not, true_not_false}
-use Rattle.cm_order.proofs.levels.Kids.{next_kid, other_kids, no_kids}
+use Rattle.cm_order.proofs.levels.Kids.{other_kids, no_kids}
 use Rattle.cm_order.proofs.levels.Gathering.{own_shut, kid_shut}
 use Rattle.cm_order.proofs.searches.Turns.{under}
 use Rattle.cm_order.proofs.names.Edges.{node_kid, depends_node}
 use Rattle.cm_order.proofs.names.Graphs.{direct_acyclic}
 
--- what the declaration of a row says of its uses
-pub uses_by : (rows : List Row) (i : ℕ) (d : Decl) (uses : List Usage) (b : Bool) → Some d ≡ decl_of rows i → uses ≡ d.uses → b ≡ list_any (λ u. is_strong u.dependency && is_from_child u.from) uses → b ≡ option_map_or (λ d. list_any (λ u. is_strong u.dependency && is_from_child u.from) d.uses) (decl_of rows i) false
-uses_by rows i d uses b found same is =
-    is ∙ ap (list_any (λ u. is_strong u.dependency && is_from_child u.from)) same ∙ ap (λ o. option_map_or (λ (d : Decl). list_any (λ u. is_strong u.dependency && is_from_child u.from) d.uses) o false) found
-
 module _ (rows : List Row) (next : ℕ) (sound : IsSound rows next) (p : ℕ) where
   apart : (c : ℕ) → IsKid rows p c → c ≢ p
   apart c kid = λ same. let higher : p < c = kid_higher rows next sound.orderly p c kid in absurd (omega arith)
 
-  -- a child on which nothing depends that isn't all shut is free
-  pub free_unnamed : (c : ℕ) (behind : Option ℕ) (named : BTreeSet ℕ) → HasBound rows p named → Some c ≡ child_behind rows p behind → is_in_set named c ≡ false → IsFreeKid rows p c
-  free_unnamed c behind named has found out =
-      let kid : IsKid rows p c = (next_kid rows next sound.orderly p behind c (sym found)).0 in
-      record { kid = kid; free = λ z way. by z kid way (is_wholly_shut rows p z) refl }
-    where
-      by : (z : ℕ) → IsKid rows p c → Depends (level rows p) z c → (b : Bool) → is_wholly_shut rows p z ≡ b → IsTrue (is_wholly_shut rows p z)
-      by z kid way true shut = shut
-      by z kid way false unshut = true_not_false (is_in_set named c) (has z c (apart c kid) unshut way) out
+  -- the last step of a way
+  last_step : (z : ℕ) (zs : List ℕ) (x : ℕ) → DependencyPath (LevelOn rows p) z zs x → LevelOn rows p z x ⊎ ((v : ℕ) × Depends (level rows p) z v × LevelOn rows p v x)
+  last_step z [] x on = inl on
+  last_step z (w ∷ ws) x way = elim (last_step w ws x way.1) [
+    | inl on ↦ inr (w, ([], way.0), on)
+    | inr rest ↦ inr (rest.0, (w ∷ rest.1.0, (way.0, rest.1.1)), rest.2)
+  ]
+
+  -- what depends directly on a child whose list is empty is cleared
+  cleared_client : (known : Dependents) → KnowsDependents rows p known → (c v : ℕ) → IsKid rows p c → ((z : ℕ) → is_client known.edges.clients c z ≡ false) → LevelOn rows p v c → IsCleared rows p v
+  cleared_client known is c v kid none (inr implied) = absurd (apart c kid implied.own)
+  cleared_client known is c v kid none (inl strong) = elim (is.clients v c (apart c kid) strong) [
+    | inl there ↦ absurd (true_not_false (is_client known.edges.clients c v) there (none v))
+    | inr cleared ↦ is.cleared v cleared
+  ]
+
+  -- so such a child is free
+  pub free_unlisted : (known : Dependents) → KnowsDependents rows p known → (c : ℕ) → IsKid rows p c → ((z : ℕ) → is_client known.edges.clients c z ≡ false) → IsFreeKid rows p c
+  free_unlisted known is c kid none = record {
+    kid = kid;
+    free = λ z way. elim (last_step z way.0 c way.1) [
+      | inl on ↦ (cleared_client known is c z kid none on).shut
+      | inr rest ↦ (cleared_client known is c rest.0 kid none rest.2).free z rest.1
+    ];
+  }
 
   -- ---- p itself
 
-  free_by : (z : ℕ) → AreKidsShut rows p → Depends (level rows p) z p → IsTrue (is_wholly_shut rows p z)
+  pub free_by : (z : ℕ) → AreKidsShut rows p → Depends (level rows p) z p → IsTrue (is_wholly_shut rows p z)
   free_by z kids way = elim (node_kid rows p z (depends_node rows p z p way)) [
     | inl own ↦ absurd (direct_acyclic (level rows p) (sound.acyclic p) (p, subst (λ v. Depends (level rows p) v p) own way))
     | inr kid ↦ kid_shut rows next sound.orderly p z kid ∙ kids z kid

@@ -1,22 +1,22 @@
 -- Which row that is given may be picked.
-use Rattle.std.proofs.Common.{◌≡◌, ◌≢◌, ℕ, ◌<◌, List, [], ◌∷◌, Bool, true, false, not, ◌&&◌, ◌==◌, Option, Some, None, Result, Ok, Err, IsTrue, is_none, is_some, option_map, true≢false, option_and_then, find, refl, sym, ◌∙◌, ap, subst, inl, inr}
+use Rattle.std.proofs.Common.{◌≡◌, ◌≢◌, ℕ, List, Bool, true, false, not, ◌&&◌, Option, Some, None, Result, Ok, Err, IsTrue, is_none, is_some, option_map, true≢false, option_and_then, refl, sym, ◌∙◌, ap, subst, inl, inr}
 use Rattle.std.specs.Prelude.{◌↔◌, IfOk}
 use Rattle.std.specs.Option.{option_map_or}
 use Rattle.cm_decl.proofs.Sameness.{and_first, and_second, never}
 use Rattle.cm_world.specs.declared.row.Row.{Row}
 use Rattle.cm_world.specs.declared.action.ActKind.{ActKind}
 use Rattle.cm_world.specs.declared.view.Facts.{Facts}
-use Rattle.cm_world.specs.Rows.{row_of, is_live, is_below, is_closing, has_closing, line_of, is_subtree_shut}
+use Rattle.cm_world.specs.Rows.{row_of, is_live, is_below, is_closing, has_closing, is_subtree_shut}
 use Rattle.cm_world.specs.RowsInside.{facts_of}
 use Rattle.cm_world.specs.Sound.{IsOrderly}
 use Rattle.cm_world.specs.Step.{may_close}
-use Rattle.cm_world.specs.Stopping.{IsFree, line_up_to, AllFree, outermost, MayPick}
+use Rattle.cm_world.specs.Stopping.{IsFree, AllFree, outermost, MayPick}
 use Rattle.cm_world.proofs.trees.Finding.{none_some, some_same, find-passes}
 use Rattle.cm_order.specs.Kids.{IsKid}
 use Rattle.cm_order.specs.Search.{IsFreeAt}
 use Rattle.cm_order.specs.Picking.{MayBePicked}
 use Rattle.cm_order.specs.Ways.{is_idle, IsFreeUpTo}
-use Rattle.cm_order.proofs.trees.Trees.{climb, below_self, below_cases, below_lives, below_trans, kid_below, flip_not, true_not_false}
+use Rattle.cm_order.proofs.trees.Trees.{climb, below_self, below_cases, below_lives, below_trans, kid_below, flip_not}
 use Rattle.cm_order.proofs.trees.Tops.{top_of, top_below, no_top, closing_below}
 use Rattle.cm_order.proofs.trees.Paths.{path, path_top}
 use Rattle.cm_order.proofs.searches.Searching.{row_unshut, kid_leads}
@@ -209,6 +209,12 @@ module _ (rows : List Row) (next : ℕ) (orderly : IsOrderly rows next) where
     above = below_trans rows next orderly p here i (kid_below rows next orderly p here more.kid) way.above;
     free = (path rows next orderly p here i more.kid way.above).more i way.free leads.free;
   }
+
+  -- a child that isn't shut leads where it is free
+  pub leads_free : (p c : ℕ) → IsKid rows p c → option_map_or (λ r. not r.shut) (row_of rows c) false ≡ true → IsFree rows p c → IsFreeAt rows p c
+  leads_free p c kid unshut free =
+      kid_leads rows next orderly Idle p c c kid.row kid (below_self rows next orderly c kid.row kid.lives) kid.lives
+      (flip_not kid.row.shut (sym (ap (λ o. option_map_or (λ r. not r.shut) o false) kid.lives) ∙ unshut)) free
 
   -- each row on the way leads, where all levels are free
   pub next_leads : (top i here p : ℕ) → IsTrue (is_idle rows i) → IsWayUp rows top i here → IsFurther rows top here p → IsFreeUpTo rows top i → IsFreeAt rows p here

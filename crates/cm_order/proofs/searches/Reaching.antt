@@ -16,8 +16,8 @@ use Rattle.cm_order.specs.declared.plan.DescentPlan.{DescentPlan}
 use Rattle.cm_order.specs.Kids.{IsKid}
 use Rattle.cm_order.specs.declared.search.VisitResult.{VisitResult}
 use Rattle.cm_order.specs.declared.search.VisitResult.TheVariants.{Below}
-use Rattle.cm_order.specs.Glances.{IsFreeKid, IsGlance, AreKidsShut}
-use Rattle.cm_order.specs.Plans.{IsFreeOnTheWay, IsKnownLevel, IsStand, IsDescent, IsPlan, KnowsNone}
+use Rattle.cm_order.specs.Glances.{IsFreeKid, IsGlance, KnowsDependents, AreKidsShut}
+use Rattle.cm_order.specs.Plans.{IsFreeOnTheWay, IsKnownLevel, IsStand, IsDescent, AreKnown, IsPlan, KnowsNone}
 use Rattle.cm_order.proofs.trees.Trees.{climb, below_self, below_up, below_cases, below_lives, below_least, below_trans, kid_below, kid_higher}
 use Rattle.cm_order.proofs.trees.Tops.{closing_below}
 use Rattle.cm_order.proofs.levels.Glancing.{shut_below}
@@ -90,17 +90,18 @@ one_more rows top old new s pushed all here = subst (IsDescent rows top) (sym pu
 
 -- a level that wasn't looked at
 abbrev pub fresh : ℕ → Stand
-fresh inc = record { inc = inc; named = None; done = None; below_shut = false }
+fresh inc = record { inc = inc; done = None; below_shut = false }
 
 pub unknown : (rows : List Row) (top inc : ℕ) (s : Stand) → s ≡ fresh inc → IsFreeOnTheWay rows top inc → IsStand rows top s
 unknown rows top inc s is reached =
-    subst (IsStand rows top) (sym is) (record { reached = reached; known = record { named = tt; done = λ c kid. inl refl; below = λ yes. never yes } })
+    subst (IsStand rows top) (sym is) (record { reached = reached; known = record { done = λ c kid. inl refl; below = λ yes. never yes } })
 
 -- a plan without a way holds anywhere
 pub plan_none : (rows : List Row) (plan : DescentPlan) → KnowsNone plan → IsPlan rows plan
 plan_none rows plan none = record {
   way = subst (IsDescent rows plan.top) (sym none.way) tt;
   others = λ top. subst (λ o. IfSome o (λ way. IsDescent rows top way.items)) (sym (none.others top)) tt;
+  levels = λ p. subst (λ o. IfSome o (KnowsDependents rows p)) (sym (none.levels p)) tt;
 }
 
 -- an instance that is left behind, where all below it is known to be shut
@@ -122,10 +123,11 @@ gone_on rows next orderly top old rest way new s t c seen split all so_far glanc
     one_more rows top way new t pushed so_far (unknown rows top c t new_one (reached_kid rows next orderly top s.inc c parts.1.reached chosen))
 
 -- a plan whose way was lengthened
-pub way_changed : (rows : List Row) (old new : DescentPlan) (top : ℕ) → IsPlan rows old → old.top ≡ top → new.top ≡ old.top → new.others ≡ old.others → IsDescent rows top new.way.items → IsPlan rows new
-way_changed rows old new top it own same others way = record {
+pub way_changed : (rows : List Row) (old new : DescentPlan) (top : ℕ) → IsPlan rows old → old.top ≡ top → new.top ≡ old.top → new.others ≡ old.others → IsDescent rows top new.way.items → AreKnown rows new.levels → IsPlan rows new
+way_changed rows old new top it own same others way levels = record {
   way = subst (λ t. IsDescent rows t new.way.items) (sym (same ∙ own)) way;
   others = λ t. subst (λ m. IfSome (get nat_cmp m t) (λ w. IsDescent rows t w.items)) (sym others) (it.others t);
+  levels = levels;
 }
 
 -- ---- what stands on a way

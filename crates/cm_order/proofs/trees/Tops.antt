@@ -1,5 +1,5 @@
 -- The outermost closing row above another.
-use Rattle.std.proofs.Common.{◌≡◌, ℕ, zero, suc, List, [], ◌∷◌, Bool, true, false, cond, ◌||◌, Option, Some, None, IsTrue, find, length, reverse, option_and_then, refl, sym, ◌∙◌, ap, subst, inl, inr}
+use Rattle.std.proofs.Common.{◌≡◌, ℕ, zero, suc, List, [], ◌∷◌, Bool, true, false, cond, ◌||◌, true≢false, Option, Some, None, IsTrue, find, length, reverse, option_and_then, refl, sym, ◌∙◌, ap, subst, inl, inr}
 use Rattle.std.specs.Option.{option_map_or, option_or}
 use Rattle.std.proofs.lemmas.List.{reverse-append}
 use Rattle.std.proofs.lemmas.List.Folds.{find-append}
@@ -24,6 +24,31 @@ top_more rows i line =
     ap (find (λ i. has_closing rows i)) (reverse-append (i ∷ []) line)
     ∙ find-append (λ i. has_closing rows i) (reverse line) (i ∷ [])
     ∙ ap (option_or (find (λ i. has_closing rows i) (reverse line))) (find_one rows i (has_closing rows i) refl)
+
+-- ---- where no row on the way up is closing
+
+neither : (a b : Bool) → (a || b) ≡ false → (a ≡ false) × (b ≡ false)
+neither true b e = absurd (true≢false e)
+neither false b e = (refl, e)
+
+missing_row : (n : ℕ) (rows : List Row) (i : ℕ) (o : Option Row) → row_of rows i ≡ o → ((u : Option ℕ) → at_or_above n (λ r. r.closing) rows u ≡ false → find (λ j. has_closing rows j) (reverse (line_from n rows u)) ≡ None) → elim o as (λ _. Bool) [ None ↦ false | Some r ↦ r.closing || at_or_above n (λ q. q.closing) rows r.parent ] ≡ false → find (λ j. has_closing rows j) (reverse (elim o as (λ _. List ℕ) [ None ↦ [] | Some r ↦ i ∷ line_from n rows r.parent ])) ≡ None
+missing_row n rows i None here later off = refl
+missing_row n rows i (Some r) here later off =
+    let both = neither r.closing (at_or_above n (λ q. q.closing) rows r.parent) off in
+    let own : has_closing rows i ≡ false = ap (λ o. option_map_or (λ q. q.closing) o false) here ∙ both.0 in
+    top_more rows i (line_from n rows r.parent)
+    ∙ ap (λ o. option_or o (cond (has_closing rows i) (Some i) None)) (later r.parent both.1)
+    ∙ ap (λ b. option_or None (cond b (Some i) None)) own
+
+missing_from : (n : ℕ) (rows : List Row) (u : Option ℕ) → at_or_above n (λ r. r.closing) rows u ≡ false → find (λ j. has_closing rows j) (reverse (line_from n rows u)) ≡ None
+missing_from zero rows u off = refl
+missing_from (suc n) rows None off = refl
+missing_from (suc n) rows (Some i) off = missing_row n rows i (row_of rows i) refl (λ u. missing_from n rows u) off
+
+-- a loop that is at a row at or above which none is closing has found all
+pub goes_no_further : (rows : List Row) (all : Option ℕ) (here : ℕ) (at found : Option ℕ) → at ≡ Some here → is_closing rows here ≡ false → all ≡ option_or (outermost_from rows at) found → found ≡ all
+goes_no_further rows all here at found is off so_far =
+    sym (so_far ∙ ap (λ o. option_or (outermost_from rows o) found) is ∙ ap (λ o. option_or o found) (missing_from (length rows) rows (Some here) off))
 
 -- an outermost closing row is its own, and the row stands below it
 pub record IsTop (rows : List Row) (top i : ℕ) : Type 0 where

@@ -1,13 +1,13 @@
 //! The reply to a find.
 
-ghost use Rattle.std.specs.Prelude.{◌≡◌, [], IfOk, IsTrue, if◌then◌else◌};
+ghost use Rattle.std.specs.Prelude.{◌≡◌, ◌≤◌, [], IfOk, IsTrue, if◌then◌else◌, length, take};
 ghost use Rattle.cm_world.specs.Rows.{is_closed, is_live};
 ghost use Rattle.cm_world.specs.Sound.{IsOrderly};
 ghost use Rattle.cm_world.specs.declared.reply.Reply.TheVariants as reply;
 ghost use Rattle.cm_world.specs.Find.{found_from};
 ghost use Rattle.cm_world.specs.Located.{located_from};
 
-use cm_names::{ChildName, List, Memory, Moniker, Shared};
+use cm_names::{Chain, Memory, Moniker};
 use cm_table::Table;
 use cm_walk::above::is_closed;
 use cm_walk::locate;
@@ -26,7 +26,7 @@ pub fn found(alloc: Global, table: &Table, moniker: &Moniker) -> Result<Reply, M
     match located::<Brand>(table, moniker, Blank::new(1)) {
         Located::Found(inc) => Ok(Reply::Found(inc)),
         Located::Unresolved(inc) => Ok(unresolved(table, inc)),
-        Located::Missing(count) => missing(alloc, table, moniker.parts.as_slice(), count),
+        Located::Missing(count) => missing(alloc, table, &moniker.parts, count),
     }
 }
 
@@ -46,26 +46,22 @@ fn located<L: Ledger>(table: &Table, moniker: &Moniker, blank: Blank) -> Located
 /// What is said where so many of these names are found, and the next one isn't. No tree has 2^32 - 1
 /// of them one below the other, since it has at most so many rows; that would be out of memory.
 #[tactic(auto, using(crate::proofs::read::Leading::missing_reply))]
-fn missing(
-    alloc: Global,
-    table: &Table,
-    parts: &[Shared<ChildName>],
-    count: u32,
-) -> Result<Reply, Memory>
+fn missing(alloc: Global, table: &Table, parts: &Chain, count: u32) -> Result<Reply, Memory>
     requires { located_from table.now.rows 0 0 parts.now ≡ Located.Missing count }
     ensures { IfOk result (λ reply. reply ≡ found_from table.now.rows 0 [] parts.now) }
 {
     if count < u32::MAX {
-        return not_found(alloc, &parts[..count as usize]);
+        return not_found(alloc, parts, count as usize);
     }
     Err(Memory)
 }
 
-/// What is said where nothing stands after these names.
-fn not_found(alloc: Global, prefix: &[Shared<ChildName>]) -> Result<Reply, Memory>
-    ensures { IfOk result (λ told. told ≡ reply.NotFound (record { parts = prefix.now })) }
+/// What is said where nothing stands after the first `count` names.
+fn not_found(alloc: Global, parts: &Chain, count: usize) -> Result<Reply, Memory>
+    requires { count ≤ length parts.now }
+    ensures { IfOk result (λ told. told ≡ reply.NotFound (record { parts = take count parts.now })) }
 {
-    let parts = List::from_vec(prefix.to_vec(alloc)?);
+    let parts = parts.upto(alloc, count)?;
     Ok(Reply::NotFound(Moniker { parts }))
 }
 

@@ -11,7 +11,7 @@ ghost use Rattle.cm_steps.specs.Chosen.{AnswersThis};
 
 use crate::replies::beginning::program_work;
 use cm_names::{Boxed, List, Memory};
-use cm_order::{DescentPlan, Picked, may_pick, pick_with};
+use cm_order::{DescentPlan, Picked, may_pick_with, pick_with};
 use cm_table::Table;
 use cm_walk::above::is_on;
 use cm_world::Work;
@@ -106,7 +106,7 @@ fn choice(
     if let Some(on) = of_this(picked, inc) {
         return Ok(Some(on));
     }
-    if !may_pick(alloc, table, target, inc)? {
+    if !may_pick_with(alloc, table, plan, target, inc)? {
         return Ok(None);
     }
     Ok(Some(is_on(table, inc)))

@@ -300,6 +300,8 @@ gone_kids false i l e = refl
 pub unlinked_other : (gone : Bool) (rows : List Row) (next i : ℕ) (s : Slot) → IsOrderly rows next → IsIndexed rows next s → ((r : Row) → row_of rows i ≡ Some r → r.parent ≡ Some s.row.inc → ⊥) → IsUnlinked i gone s s
 unlinked_other gone rows next i s o h other = record {
   row = refl;
+  marks = refl;
+  moniker = refl;
   base = refl;
   kids = gone_kids gone i (kids_of s.index)
       (ap (drop_first (λ k. k == i)) h.kids ∙ sym (filter_without (has_parent s.row.inc) i next rows o.increasing)

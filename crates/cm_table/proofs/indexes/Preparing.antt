@@ -4,6 +4,7 @@ use Rattle.std.specs.Prelude.{option_map}
 use Rattle.std.specs.Cmp.{unsigned_Decides}
 use Rattle.std.proofs.lemmas.List.{take_more, length-take, map-append}
 use Rattle.cm_names.specs.declared.child.ChildName.{ChildName}
+use Rattle.cm_names.specs.declared.moniker.Moniker.{Moniker}
 use Rattle.cm_decl.specs.declared.rows.Child.{Child}
 use Rattle.cm_decl.specs.declared.decl.Decl.{Decl}
 use Rattle.cm_decl.specs.Graph.{static_name}
@@ -13,6 +14,7 @@ use Rattle.cm_decl.specs.Valid.{IsValid}
 use Rattle.cm_world.specs.declared.row.Row.{Row}
 use Rattle.cm_world.specs.Rows.{child_of}
 use Rattle.cm_world.specs.End.{child_row, child_rows}
+use Rattle.cm_table.specs.declared.marks.MarksAbove.{MarksAbove}
 use Rattle.cm_table.specs.declared.slot.Slot.{Slot}
 use Rattle.cm_table.specs.Slots.{rows_in}
 use Rattle.cm_table.specs.Numbering.{bare_slot}
@@ -48,9 +50,9 @@ kids_more ks i d old new lt before put =
     put ∙ ap (λ l. l ++ i ∷ []) before ∙ sym (ap incs (rows_more ks i d lt) ∙ incs_append (child_rows 0 0 (take i ks)) (child_row 0 i (get_or ks i d) ∷ []))
 
 -- the slot of one child more
-pub rows_pushed : (ks : List Child) (i : ℕ) (k : Child) (ss ts : List Slot) (r : Row) → i < length ks → k ≡ get_or ks i k → rows_in ss ≡ map (child_row 0 0) (take i ks) → ts ≡ ss ++ bare_slot r ∷ [] → r ≡ child_row 0 0 k → rows_in ts ≡ map (child_row 0 0) (take (i + 1) ks)
-rows_pushed ks i k ss ts r lt is before put made =
-    ap rows_in put ∙ rows_append ss (bare_slot r ∷ []) ∙ ap (λ l. l ++ r ∷ []) before
+pub rows_pushed : (ks : List Child) (i : ℕ) (k : Child) (ss ts : List Slot) (r : Row) (m : MarksAbove) (kept : Option Moniker) → i < length ks → k ≡ get_or ks i k → rows_in ss ≡ map (child_row 0 0) (take i ks) → ts ≡ ss ++ bare_slot r m kept ∷ [] → r ≡ child_row 0 0 k → rows_in ts ≡ map (child_row 0 0) (take (i + 1) ks)
+rows_pushed ks i k ss ts r m kept lt is before put made =
+    ap rows_in put ∙ rows_append ss (bare_slot r m kept ∷ []) ∙ ap (λ l. l ++ r ∷ []) before
     ∙ ap (λ x. map (child_row 0 0) (take i ks) ++ x ∷ []) (made ∙ ap (child_row 0 0) is)
     ∙ sym (ap (map (child_row 0 0)) (take_more ks i k lt) ∙ map-append (child_row 0 0) (take i ks) (get_or ks i k ∷ []))
 

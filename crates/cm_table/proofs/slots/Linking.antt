@@ -59,6 +59,8 @@ linked ss mid ts p name i x1 x2 w base kids names =
       here : (s : Slot) → slot_of ss p ≡ Some s → IsLinked p name i s (indexed_by x2 s)
       here s at = record {
         row = refl;
+        marks = refl;
+        moniker = refl;
         base = base ∙ ap base_of (w.was s at);
         kids = kids ∙ ap (λ x. kids_of x ++ i ∷ []) (w.was s at) ∙ sym (ap (λ b. cond b (kids_of s.index ++ i ∷ []) (kids_of s.index)) (found_inc ss p s at));
         names = λ c. names c ∙ ap (λ x. cond (same_child name c) (Some i) (named_in x c)) (w.was s at)
@@ -68,6 +70,8 @@ linked ss mid ts p name i x1 x2 w base kids names =
       other : (s : Slot) → (s.row.inc ≡ p → ⊥) → IsLinked p name i s s
       other s differ = record {
         row = refl;
+        marks = refl;
+        moniker = refl;
         base = refl;
         kids = sym (ap (λ b. cond b (kids_of s.index ++ i ∷ []) (kids_of s.index)) (missed_inc s p differ));
         names = λ c. sym (ap (λ b. cond (b && same_child name c) (Some i) (named_in s.index c)) (missed_inc s p differ));
@@ -78,8 +82,8 @@ unfolding Always
 same_said ss mid ts p x1 x2 w base kids names =
     subst (EachOf IsSame ss) (sym (swapped ss mid ts p x1 x2 w))
     (each_of_edited inc_of IsSame Always p (indexed_by x2) ss w.rise (always ss)
-    (λ s _ at. record { row = refl; base = base ∙ ap base_of (w.was s at); kids = kids ∙ ap kids_of (w.was s at); names = λ c. names c ∙ ap (λ x. named_in x c) (w.was s at) })
-    (λ s _ differ. record { row = refl; base = refl; kids = refl; names = λ c. refl }))
+    (λ s _ at. record { row = refl; marks = refl; moniker = refl; base = base ∙ ap base_of (w.was s at); kids = kids ∙ ap kids_of (w.was s at); names = λ c. names c ∙ ap (λ x. named_in x c) (w.was s at) })
+    (λ s _ differ. record { row = refl; marks = refl; moniker = refl; base = refl; kids = refl; names = λ c. refl }))
 
 -- ---- a child less
 
@@ -93,6 +97,8 @@ unlinked gone ss mid ts p i x1 x2 a w up base kids names =
     (each_of_edited inc_of (IsUnlinked i gone) (IsIndexed (rows_in ss) a.next) p (indexed_by x2) ss w.rise a.indexed
     (λ s h at. record {
       row = refl;
+      marks = refl;
+      moniker = refl;
       base = base ∙ ap base_of (w.was s at);
       kids = kids ∙ ap (λ x. cond gone (drop_first (λ k. k == i) (kids_of x)) (kids_of x)) (w.was s at);
       names = λ c. names c ∙ ap (λ x. unless i (named_in x c)) (w.was s at);

@@ -3,7 +3,7 @@ use Rattle.std.proofs.Common.{true≢false, refl, subst, inl, inr}
 use Rattle.cm_decl.specs.Valid.{IsValid}
 use Rattle.cm_world.specs.declared.action.Outcome.{Outcome}
 use Rattle.cm_world.specs.declared.action.Outcome.TheVariants.{Started, Stopped, Killed}
-use Rattle.cm_world.specs.End.{end_row}
+use Rattle.cm_world.specs.End.{end_row, set_closing}
 use Rattle.cm_world.proofs.trees.Finding.{some_same}
 use Rattle.cm_table.specs.declared.change.Change.{Change}
 use Rattle.cm_table.specs.declared.change.Change.TheVariants.{On, Pending, Closing, Doomed, Shut, End, Resolve}
@@ -34,11 +34,15 @@ spares_end Stopped = record { inc = λ r. refl; parent = λ r. refl; name = λ r
 spares_end Killed = record { inc = λ r. refl; parent = λ r. refl; name = λ r. refl; doomed = λ r. refl }
 spares_end _ = record { inc = λ r. refl; parent = λ r. refl; name = λ r. refl; doomed = λ r. refl }
 
--- a change that dooms no row
+-- a mark to be shut down dooms no row
+pub spares_closing : SparesRows set_closing
+spares_closing = record { inc = λ r. refl; parent = λ r. refl; name = λ r. refl; doomed = λ r. refl }
+
+-- nor does a change that puts no mark there
 pub spares : (c : Change) → IsSparing c → SparesRows (change_row c)
 spares (On on) sparing = record { inc = λ r. refl; parent = λ r. refl; name = λ r. refl; doomed = λ r. refl }
 spares (Pending pending) sparing = record { inc = λ r. refl; parent = λ r. refl; name = λ r. refl; doomed = λ r. refl }
-spares Closing sparing = record { inc = λ r. refl; parent = λ r. refl; name = λ r. refl; doomed = λ r. refl }
+spares Closing sparing = absurd sparing
 spares Doomed sparing = absurd sparing
 spares Shut sparing = record { inc = λ r. refl; parent = λ r. refl; name = λ r. refl; doomed = λ r. refl }
 spares (End o) sparing = spares_end o

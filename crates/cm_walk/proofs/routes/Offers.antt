@@ -1,17 +1,20 @@
--- The offer that an index tells.
-use Rattle.std.proofs.Common.{◌≡◌, ℕ, ◌<◌, ◌-◌, ◌^◌, List, length, Bool, true, false, cond, Option, Some, None, find, refl, sym, ap, ◌∙◌, arith}
+-- The offer, the use, the expose and the capability that an index tells.
+use Rattle.std.proofs.Common.{◌≡◌, ℕ, ◌<◌, ◌-◌, ◌^◌, List, length, Bool, true, false, ◌&&◌, cond, Option, Some, None, find, refl, sym, ap, ◌∙◌, arith}
 use Rattle.std.specs.Prelude.{position, slice_get, option_map, option_and_then, nat_lt}
 use Rattle.std.specs.List.{position_or_len}
+use Rattle.std.specs.Str.{bytes_eq}
 use Rattle.std.proofs.lemmas.Bool.{ltb-false}
 use Rattle.std.proofs.lemmas.List.Folds.{find_at}
 use Rattle.std.proofs.lemmas.Option.{slice_get_past}
 use Rattle.cm_names.specs.declared.child.ChildName.{ChildName}
 use Rattle.cm_decl.specs.declared.decl.Decl.{Decl}
 use Rattle.cm_decl.specs.declared.kind.Kind.{Kind}
+use Rattle.cm_decl.specs.Same.{same_kind}
 use Rattle.cm_world.specs.declared.row.Row.{Row}
 use Rattle.cm_world.specs.Rows.{row_of, decl_of}
-use Rattle.cm_world.specs.NextStation.{is_offer_to, offer_of}
+use Rattle.cm_world.specs.NextStation.{is_offer_to, offer_of, give_of, capability_of}
 use Rattle.cm_world.specs.Offering.{offer_index, index_for, told_index, offer_for, offer_at}
+use Rattle.cm_world.specs.RowsInside.{use_index, use_at, expose_index, expose_at, capability_index, capability_at}
 use Rattle.cm_world.proofs.trees.Finding.{some_same, none_some}
 
 -- ---- the first that passes, and its place
@@ -59,3 +62,42 @@ index_is rows i kind name d c r lives named declared =
     ap (λ o. option_map told_index (option_and_then (offer_for rows kind name) o)) lives
     ∙ ap (λ o. option_map told_index (option_and_then (index_for r kind name) o)) declared
     ∙ ap (λ n. option_map told_index (option_and_then (offer_index d kind name) n)) named
+
+-- ---- a use by its index
+
+pub use_by_index : (d : Decl) (path : List ℕ) (index : ℕ) → option_map told_index (use_index d path) ≡ Some index → index < 2 ^ 32 - 1 → slice_get d.uses index ≡ find (λ u. bytes_eq u.path path) d.uses
+use_by_index d path index told less =
+    sym (first_at (λ u. bytes_eq u.path path) d.uses index (told_exactly (use_index d path) index told less))
+
+-- the index for an instance that has this declaration
+pub use_index_is : (rows : List Row) (i : ℕ) (path : List ℕ) (d : Decl) → decl_of rows i ≡ Some d → use_at rows i path ≡ option_map told_index (use_index d path)
+use_index_is rows i path d declared = ap (λ o. option_map told_index (option_and_then (λ e. use_index e path) o)) declared
+
+pub no_use_by_index : (rows : List Row) (i : ℕ) (path : List ℕ) (d : Decl) → decl_of rows i ≡ Some d → use_at rows i path ≡ None → None ≡ find (λ u. bytes_eq u.path path) d.uses
+no_use_by_index rows i path d declared told =
+    sym (none_at (λ u. bytes_eq u.path path) d.uses (told_none (use_index d path) (sym (use_index_is rows i path d declared) ∙ told)))
+
+-- ---- an expose and a capability by their indexes
+
+module _ (kind : Kind) (name : List ℕ) where
+  pub expose_by_index : (d : Decl) (index : ℕ) → option_map told_index (expose_index d kind name) ≡ Some index → index < 2 ^ 32 - 1 → slice_get d.exposes index ≡ give_of d.exposes kind name
+  expose_by_index d index told less =
+      sym (first_at (λ g. same_kind g.kind kind && bytes_eq g.target_name name) d.exposes index (told_exactly (expose_index d kind name) index told less))
+
+  pub expose_index_is : (rows : List Row) (i : ℕ) (d : Decl) → decl_of rows i ≡ Some d → expose_at rows i kind name ≡ option_map told_index (expose_index d kind name)
+  expose_index_is rows i d declared = ap (λ o. option_map told_index (option_and_then (λ e. expose_index e kind name) o)) declared
+
+  pub no_expose_by_index : (rows : List Row) (i : ℕ) (d : Decl) → decl_of rows i ≡ Some d → expose_at rows i kind name ≡ None → None ≡ give_of d.exposes kind name
+  no_expose_by_index rows i d declared told =
+      sym (none_at (λ g. same_kind g.kind kind && bytes_eq g.target_name name) d.exposes (told_none (expose_index d kind name) (sym (expose_index_is rows i d declared) ∙ told)))
+
+  pub capability_by_index : (d : Decl) (index : ℕ) → option_map told_index (capability_index d kind name) ≡ Some index → index < 2 ^ 32 - 1 → slice_get d.capabilities index ≡ capability_of d kind name
+  capability_by_index d index told less =
+      sym (first_at (λ c. same_kind c.kind kind && bytes_eq c.name name) d.capabilities index (told_exactly (capability_index d kind name) index told less))
+
+  pub capability_index_is : (rows : List Row) (i : ℕ) (d : Decl) → decl_of rows i ≡ Some d → capability_at rows i kind name ≡ option_map told_index (capability_index d kind name)
+  capability_index_is rows i d declared = ap (λ o. option_map told_index (option_and_then (λ e. capability_index e kind name) o)) declared
+
+  pub no_capability_by_index : (rows : List Row) (i : ℕ) (d : Decl) → decl_of rows i ≡ Some d → capability_at rows i kind name ≡ None → None ≡ capability_of d kind name
+  no_capability_by_index rows i d declared told =
+      sym (none_at (λ c. same_kind c.kind kind && bytes_eq c.name name) d.capabilities (told_none (capability_index d kind name) (sym (capability_index_is rows i d declared) ∙ told)))

@@ -73,3 +73,8 @@ finds_as_located rows names = replies_from rows 0 0 [] names refl
 pub find_reply : (rows : List Row) (names : List ChildName) (l : Located) → located_from rows 0 0 names ≡ l → IsFindReply rows names l (found_from rows 0 [] names)
 find_reply rows names l is =
     subst (λ x. IsFindReply rows names x (found_from rows 0 [] names)) is (finds_as_located rows names)
+
+-- names are left at an instance that isn't resolved
+pub stuck : (rows : List Row) (names : List ChildName) (i k : ℕ) → 0 < length names → false ≡ is_resolved rows i → located_from rows i k names ≡ Unresolved i
+stuck rows [] i k some lacks = absurd (omega arith)
+stuck rows (c ∷ cs) i k some lacks = rw (← lacks) refl

@@ -14,3 +14,14 @@ pub returns-clause-usages : goal.returns-clause-usages
 returns-clause-usages g c =
     if_any (λ told. IsTrue told → IsTrue (list_all is_plain_use c.args.decl.now.uses)) c.leads_onward.result
     (λ told is. and_second (list_all is_plain_offer c.args.decl.now.offers) (list_all is_plain_use c.args.decl.now.uses) (sym c.are_declared_plain.ensures ∙ c.if-not-are_declared_plain.false))
+
+pub returns-then-is_unwanted-clause-offers : goal.returns-then-is_unwanted-clause-offers
+returns-then-is_unwanted-clause-offers g c = λ is.
+    and_first (list_all is_plain_offer c.args.decl.now.offers) (list_all is_plain_use c.args.decl.now.uses) (sym c.are_declared_plain.ensures ∙ c.if-not-are_declared_plain.false)
+
+pub returns-then-is_unwanted-clause-usages : goal.returns-then-is_unwanted-clause-usages
+returns-then-is_unwanted-clause-usages g c = λ is.
+    and_second (list_all is_plain_offer c.args.decl.now.offers) (list_all is_plain_use c.args.decl.now.uses) (sym c.are_declared_plain.ensures ∙ c.if-not-are_declared_plain.false)
+
+pub returns-then-is_unwanted-clause-ways : goal.returns-then-is_unwanted-clause-ways
+returns-then-is_unwanted-clause-ways g c = λ is. c.is_unwanted.ensures c.if-is_unwanted.true

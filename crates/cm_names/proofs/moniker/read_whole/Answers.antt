@@ -1,4 +1,5 @@
-use Rattle.std.proofs.Common.{◌∙◌, rules}
+use Rattle.std.proofs.Common.{◌∙◌, rules, subst, sym}
+use Rattle.cm_names.specs.Moniker.{IsMonikerTextOf}
 use Rattle.cm_names.proofs.texts.MonikerParts.{pieces, made}
 use Rattle.cm_names.proofs.moniker.read_whole.Goals as goal
 
@@ -8,4 +9,5 @@ read_parts-requires c =
 
 pub returns : goal.returns
 returns c =
-    made c.args.text.now c.in_ok-parts.parts c.in_ok-parts.ensures.names (c.in_ok-parts.ensures.texts ∙ search rules)
+    subst (λ names. IsMonikerTextOf c.args.text.now (record { parts = names })) (sym c.from_list.ensures)
+    (made c.args.text.now c.in_ok-parts.parts c.in_ok-parts.ensures.names (c.in_ok-parts.ensures.texts ∙ search rules))

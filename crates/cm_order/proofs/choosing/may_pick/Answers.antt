@@ -1,35 +1,5 @@
-use Rattle.std.proofs.Common.{true≢false, sym, ◌∙◌, IsTrue}
-use Rattle.std.specs.Prelude.{◌↔◌}
-use Rattle.std.proofs.lemmas.Bool.{and_parts, and_from}
-use Rattle.cm_world.specs.Rows.{is_below}
-use Rattle.cm_order.specs.Picking.{MayBePicked}
-use Rattle.cm_order.specs.Ways.{is_idle, IsFreeUpTo}
-use Rattle.cm_order.proofs.searches.Choosing.{never_so, none_picked, picked_is, chosen_if, if_ok}
+use Rattle.cm_order.proofs.searches.Reaching.{plan_none}
 use Rattle.cm_order.proofs.choosing.may_pick.Goals as goal
 
-pub returns-in_default : goal.returns-in_default
-returns-in_default g c = never_so (none_picked (g.V.View.rows c.args.view.now) (g.V.View.next_inc c.args.view.now) c.requires.sound.orderly c.args.target c.args.inc c.in_default.ensures)
-
-pub returns-then-not-is_idle_below : goal.returns-then-not-is_idle_below
-returns-then-not-is_idle_below g c =
-    never_so (λ it.
-    let is = picked_is (g.V.View.rows c.args.view.now) (g.V.View.next_inc c.args.view.now) c.requires.sound.orderly c.args.target c.in-Some.top c.args.inc (sym c.in-Some.ensures) it in
-    true≢false (sym (and_from (is_below (g.V.View.rows c.args.view.now) c.in-Some.top c.args.inc) (is_idle (g.V.View.rows c.args.view.now) c.args.inc) is.below is.idle) ∙ sym c.is_idle_below.ensures ∙ c.if-not-is_idle_below.true))
-
-pub returns-then-branch : goal.returns-then-branch
-returns-then-branch g c = never_so (λ it. true≢false (sym c.if-branch.true ∙ c.in_ok-all_shut.ensures ∙ it.1.undone))
-
-pub is_free_up_to-requires-clause-below : goal.is_free_up_to-requires-clause-below
-is_free_up_to-requires-clause-below g c =
-    (and_parts (is_below (g.V.View.rows c.args.view.now) c.in-Some.top c.args.inc) (is_idle (g.V.View.rows c.args.view.now) c.args.inc) (sym c.is_idle_below.ensures ∙ c.if-not-is_idle_below.false)).0
-
-pub is_free_up_to-requires-clause-idle : goal.is_free_up_to-requires-clause-idle
-is_free_up_to-requires-clause-idle g c =
-    (and_parts (is_below (g.V.View.rows c.args.view.now) c.in-Some.top c.args.inc) (is_idle (g.V.View.rows c.args.view.now) c.args.inc) (sym c.is_idle_below.ensures ∙ c.if-not-is_idle_below.false)).1
-
-pub returns : goal.returns
-returns g c =
-    let both = and_parts (is_below (g.V.View.rows c.args.view.now) c.in-Some.top c.args.inc) (is_idle (g.V.View.rows c.args.view.now) c.args.inc) (sym c.is_idle_below.ensures ∙ c.if-not-is_idle_below.false) in
-    if_ok (λ free. IsTrue free ↔ IsFreeUpTo (g.V.View.rows c.args.view.now) c.in-Some.top c.args.inc) (λ may. IsTrue may ↔ MayBePicked (g.V.View.rows c.args.view.now) c.args.target c.args.inc) c.is_free_up_to.result
-    (λ free it. chosen_if (g.V.View.rows c.args.view.now) (g.V.View.next_inc c.args.view.now) c.requires.sound.orderly c.args.target c.in-Some.top c.args.inc free (sym c.in-Some.ensures) (sym c.in_ok-all_shut.ensures ∙ c.if-branch.false) both.0 both.1 it)
-    c.is_free_up_to.ensures
+pub may_pick_with-requires-clause-plan : goal.may_pick_with-requires-clause-plan
+may_pick_with-requires-clause-plan g c = plan_none (g.V.View.rows c.args.view.now) c.new-plan.result c.new-plan.ensures

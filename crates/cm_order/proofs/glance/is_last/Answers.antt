@@ -8,7 +8,6 @@ returns-clause-last g c = λ last.
 
 pub returns-clause-known : goal.returns-clause-known
 returns-clause-known g c = record {
-  named = c.requires.known.named;
   done = c.in_ok-kids.ensures.done;
   below = c.in_ok-kids.ensures.all;
 }

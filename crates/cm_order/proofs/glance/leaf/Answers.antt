@@ -10,14 +10,12 @@ returns-then-is_idle-clause-glance g c =
 
 pub returns-then-is_idle-clause-known : goal.returns-then-is_idle-clause-known
 returns-then-is_idle-clause-known g c = record {
-  named = c.requires.known.named;
   done = c.requires.known.done;
   below = λ yes i kid. absurd (no_kids (g.V.View.rows c.args.view.now) c.args.stand.now.inc None i c.requires.none kid refl);
 }
 
 pub returns-clause-known : goal.returns-clause-known
 returns-clause-known g c = record {
-  named = c.requires.known.named;
   done = c.requires.known.done;
   below = λ yes i kid. absurd (no_kids (g.V.View.rows c.args.view.now) c.args.stand.now.inc None i c.requires.none kid refl);
 }

@@ -1,9 +1,6 @@
-use Rattle.cm_order.specs.Plans.{IsDescent}
-use Rattle.cm_order.proofs.searches.Going.{IsAt, below_left}
+use Rattle.cm_order.specs.Plans.{IsFreeOnTheWay, IsDescent, AreKnown}
 use Rattle.cm_order.proofs.quick.descend.Given as goal
 
-abbrev pub invariant-down : goal.invariant-down
-invariant-down g l = IsAt (g.V.View.rows l.view) l.top l.at × IsDescent (g.V.View.rows l.view) l.top l.way.items
-
-abbrev pub decreases-down : goal.decreases-down
-decreases-down g l = below_left (g.V.View.next_inc l.view) l.at
+abbrev pub invariant-loop-turn : goal.invariant-loop-turn
+invariant-loop-turn g l =
+    IsFreeOnTheWay (g.V.View.rows l.view) l.top l.at × IsDescent (g.V.View.rows l.view) l.top l.way.items × AreKnown (g.V.View.rows l.view) l.levels

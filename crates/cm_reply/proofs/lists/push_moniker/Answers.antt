@@ -1,9 +1,10 @@
-use Rattle.std.proofs.Common.{OnOk, subst}
+use Rattle.std.proofs.Common.{OnOk, map, ap, ◌∙◌, subst}
 use Rattle.cm_reply.specs.ListsInside.{GainsText}
 use Rattle.cm_reply.proofs.Monikers.{moniker_so}
 use Rattle.cm_reply.proofs.lists.push_moniker.Goals as goal
 
 pub returns : goal.returns
 returns c =
-    let same = moniker_so c.as_slice.result.now c.args.moniker.now c.as_slice.ensures in
+    let same = moniker_so (map (λ x. x.now) c.as_slice.result.now) c.args.moniker.now
+    (ap (map (λ x. x.now)) c.as_slice.ensures.value ∙ c.in_ok-parts.ensures) in
     subst (λ bytes. OnOk c.push_parts.result (GainsText c.args.text.now c.push_parts.new.text bytes)) same c.push_parts.ensures

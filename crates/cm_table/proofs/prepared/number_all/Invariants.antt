@@ -6,5 +6,5 @@ abbrev pub invariant-loop-slot : goal.invariant-loop-slot
 invariant-loop-slot l =
     record {
       next : l.next ≡ l.first + l.slot-index;
-      items : l.slot-items ≡ numbered l.parent l.first (take l.slot-index l.fn.slots.items) ++ drop l.slot-index l.fn.slots.items;
+      items : l.slot-items ≡ numbered l.parent l.first l.marks (take l.slot-index l.fn.slots.items) ++ drop l.slot-index l.fn.slots.items;
     }

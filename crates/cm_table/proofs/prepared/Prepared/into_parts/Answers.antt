@@ -6,20 +6,33 @@ use Rattle.cm_world.specs.End.{child_row, child_rows}
 use Rattle.cm_table.specs.Ready.{Ready}
 use Rattle.cm_table.specs.Keys.{EachItem}
 use Rattle.cm_table.specs.Slots.{rows_in}
-use Rattle.cm_table.specs.Numbering.{IsBare}
-use Rattle.cm_table.proofs.slots.Numbers.{rows_of_numbered, bare_numbered}
+use Rattle.cm_table.specs.Monikers.{HasOwnName}
+use Rattle.cm_table.specs.Numbering.{IsBare, HasMarks}
+use Rattle.cm_table.proofs.slots.Numbers.{rows_of_numbered, bare_numbered, marks_numbered, own_numbered}
+use Rattle.cm_table.proofs.monikers.Hanging.{rows_hung, each_hung}
 use Rattle.cm_table.proofs.indexes.Preparing.{kids_first, names_first}
 use Rattle.cm_table.proofs.prepared.Prepared.into_parts.Goals as goal
 
 pub returns-clause-rows : goal.returns-clause-rows
 returns-clause-rows c =
-    ap rows_in c.number_all.ensures
-    ∙ rows_of_numbered c.args.parent c.args.first c.self.inside.children.items c.self.inside.decl.children c.self.invariant.children
+    rows_hung c.number_all.new.slots.items c.hang_all.new.slots.items c.hang_all.ensures.same
+    ∙ ap rows_in c.number_all.ensures
+    ∙ rows_of_numbered c.args.parent c.args.first c.args.marks c.self.inside.children.items c.self.inside.decl.children c.self.invariant.children
     ∙ ap (λ (s : Ready). child_rows c.args.parent c.args.first s.decl.children) c.self.view_is
 
 pub returns-clause-bare : goal.returns-clause-bare
 returns-clause-bare c =
-    subst (EachItem IsBare) (sym c.number_all.ensures) (bare_numbered c.args.parent c.args.first c.self.inside.children.items c.self.invariant.bare)
+    each_hung IsBare c.number_all.new.slots.items c.hang_all.new.slots.items (λ s h. h) (λ s h. h) c.hang_all.ensures.same
+    (subst (EachItem IsBare) (sym c.number_all.ensures) (bare_numbered c.args.parent c.args.first c.args.marks c.self.inside.children.items c.self.invariant.bare))
+
+pub returns-clause-marks : goal.returns-clause-marks
+returns-clause-marks c =
+    each_hung (HasMarks c.args.marks) c.number_all.new.slots.items c.hang_all.new.slots.items (λ s h. h) (λ s h. h) c.hang_all.ensures.same
+    (subst (EachItem (HasMarks c.args.marks)) (sym c.number_all.ensures) (marks_numbered c.args.parent c.args.first c.args.marks c.self.inside.children.items))
+
+pub hang_all-requires : goal.hang_all-requires
+hang_all-requires c =
+    subst (EachItem HasOwnName) (sym c.number_all.ensures) (own_numbered c.args.parent c.args.first c.args.marks c.self.inside.children.items c.self.invariant.own)
 
 pub returns-clause-kids : goal.returns-clause-kids
 returns-clause-kids c =

@@ -7,6 +7,7 @@ invariant_of-result c = record {
   decl = c.in_ok-made.ensures.decl;
   children = c.in_ok-made.ensures.rows;
   bare = c.in_ok-made.ensures.bare;
+  own = c.in_ok-made.ensures.own;
   kids = c.in_ok-made.ensures.kids;
   names = c.in_ok-made.ensures.names;
 }

@@ -11,7 +11,10 @@ use Rattle.cm_table.proofs.tree.Orderly.{orderly_changed}
 use Rattle.cm_table.proofs.tree.Changes.{keeping, spares}
 use Rattle.cm_table.proofs.lists.Editing.{edited}
 use Rattle.cm_table.proofs.slots.Rowed.{rows_changed, slots_rise}
+use Rattle.cm_table.proofs.flags.Keeping.{unmarking, flags_changed}
+use Rattle.cm_table.proofs.monikers.Standing.{standing_changed}
 use Rattle.cm_table.proofs.indexes.Indexing.{all_changed, each_at}
+use Rattle.cm_table.proofs.tree.Wanting.{gives_changed, known_changed}
 use Rattle.cm_table.proofs.table.Table.change.Goals as goal
 
 pub change_in-requires-clause-increasing : goal.change_in-requires-clause-increasing
@@ -31,6 +34,10 @@ invariant_of-self c =
           (orderly_changed (change_row c.args.change) (keeping c.args.change c.requires.safe) c.args.inc c.self.inside.next_inc (rows_in ss) c.self.invariant.orderly);
       indexed = each_at (changed c.args.inc (change_row c.args.change) (rows_in ss)) (rows_in ts) c.self.inside.next_inc (edited inc_of c.args.inc (with_row_by (change_row c.args.change)) ss) ts to c.change_in.ensures.slots
           (all_changed c.args.inc (change_row c.args.change) (spares c.args.change c.requires.sparing) (rows_in ss) c.self.inside.next_inc ss c.self.invariant.indexed);
+      flagged = flags_changed (change_row c.args.change) ss ts c.self.inside.next_inc c.args.inc (unmarking c.args.change c.requires.sparing) c.self.invariant.orderly
+          (orderly_changed (change_row c.args.change) (keeping c.args.change c.requires.safe) c.args.inc c.self.inside.next_inc (rows_in ss) c.self.invariant.orderly) c.change_in.ensures.slots c.self.invariant.flagged;
+      wanted = known_changed c.self.inside.wanted c.args.inc (change_row c.args.change) (gives_changed c.args.change) (rows_in ss) (rows_in ts) to c.self.invariant.wanted;
+      standing = standing_changed (change_row c.args.change) ss ts c.self.inside.next_inc c.args.inc (keeping c.args.change c.requires.safe) c.self.invariant.orderly c.change_in.ensures.slots c.self.invariant.standing;
     }
 
 pub returns : goal.returns

@@ -11,8 +11,11 @@ use Rattle.cm_table.proofs.lists.Drops.{length-drop_first}
 use Rattle.cm_table.proofs.tree.Leaves.{without, orderly_without}
 use Rattle.cm_table.proofs.lists.Editing.{dropped}
 use Rattle.cm_table.proofs.slots.Rowed.{row_of-slots, rows_dropped, rows_length, slots_rise, unlinked_rows, unlinked_rise}
+use Rattle.cm_table.proofs.flags.Keeping.{flags_left}
+use Rattle.cm_table.proofs.monikers.Standing.{standing_left}
 use Rattle.cm_table.proofs.indexes.Indexing.{all_gone, each_at}
 use Rattle.cm_table.proofs.tree.Removing.{parent_by_slots}
+use Rattle.cm_table.proofs.tree.Wanting.{known_without}
 use Rattle.cm_table.proofs.table.Table.remove_leaf.Goals as goal
 
 pub parent_in-parent-requires-clause-increasing : goal.parent_in-parent-requires-clause-increasing
@@ -44,6 +47,9 @@ invariant_of-self c =
       orderly = subst (λ rs. IsOrderly rs c.self.inside.next_inc) (sym to) (orderly_without (rows_in ss) c.self.inside.next_inc c.args.leaf c.self.invariant.orderly leaf.childless);
       indexed = each_at (without c.args.leaf (rows_in ss)) (rows_in ts) c.self.inside.next_inc (dropped inc_of c.args.leaf mid) ts to c.remove_in.ensures.slots
           (all_gone c.args.leaf c.self.inside.next_inc ss mid c.self.invariant.orderly c.unlink.ensures.links c.self.invariant.indexed);
+      flagged = flags_left ss mid ts c.self.inside.next_inc c.args.leaf c.self.invariant.orderly leaf.childless c.unlink.ensures.links c.remove_in.ensures.slots to c.self.invariant.flagged;
+      wanted = known_without c.self.inside.wanted c.args.leaf (rows_in ss) (rows_in ts) to c.self.invariant.wanted;
+      standing = standing_left ss mid ts c.self.inside.next_inc c.args.leaf c.self.invariant.orderly leaf.childless c.unlink.ensures.links c.remove_in.ensures.slots to c.self.invariant.standing;
     }
 
 pub returns-clause-parent : goal.returns-clause-parent

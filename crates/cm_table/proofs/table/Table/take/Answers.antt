@@ -1,20 +1,25 @@
 use Rattle.std.proofs.Common.{◌≡◌, ℕ, ◌+◌, ◌-◌, ◌<◌, ◌≤◌, ◌^◌, List, None, ◌∙◌, ap, ap₂, sym, subst, arith, length, IsTrue}
+use Rattle.std.specs.Option.{option_copied}
 use Rattle.cm_decl.specs.declared.decl.Decl.{Decl}
 use Rattle.cm_decl.specs.Valid.{IsValid}
 use Rattle.cm_world.specs.declared.row.Row.{Row}
-use Rattle.cm_world.specs.Rows.{is_live, decl_of}
+use Rattle.cm_world.specs.Rows.{is_live, decl_of, some_above, moniker_of}
 use Rattle.cm_world.specs.Sound.{IsOrderly}
 use Rattle.cm_table.specs.declared.slot.Slot.{Slot}
 use Rattle.cm_table.specs.declared.change.Change.TheVariants.{Resolve}
 use Rattle.cm_table.specs.Tree.{Tree}
+use Rattle.cm_table.specs.Flags.{has_mark, AreFlagged}
 use Rattle.cm_table.specs.Keys.{EachItem}
 use Rattle.cm_table.specs.Slots.{flat, rows_in, inc_of, with_row_by, IsIndexed}
 use Rattle.cm_table.specs.Change.{change_row, resolved}
+use Rattle.cm_table.proofs.flags.Keeping.{flags_taken}
+use Rattle.cm_table.proofs.monikers.Standing.{if_kept, standing_taken}
 use Rattle.cm_table.proofs.lists.Editing.{edited}
 use Rattle.cm_table.proofs.tree.Taking.{orderly_taken, length-taken}
 use Rattle.cm_table.proofs.slots.Rowed.{rows_length, slots_rise}
 use Rattle.cm_table.proofs.tree.Resolving.{IsTaken, taken_rows, rows_taken, mid_rises, all_taken}
 use Rattle.cm_table.proofs.lists.Fitting.{fit_below, fit_within}
+use Rattle.cm_table.proofs.tree.Wanting.{gives_changed, known_grown}
 use Rattle.cm_table.proofs.table.Table.take.Goals as goal
 
 pub change_in-requires-clause-increasing : goal.change_in-requires-clause-increasing
@@ -58,6 +63,9 @@ invariant_of-self c =
     all_taken ss mid put ts news c.args.inc next a d c.into_parts-parts.result.index t c.self.invariant.orderly lives unresolved c.into_parts-parts.ensures.valid
     (record { base = c.into_parts-parts.ensures.base; kids = c.into_parts-parts.ensures.kids; names = c.into_parts-parts.ensures.names })
     c.into_parts-parts.ensures.rows c.into_parts-parts.ensures.bare c.self.invariant.indexed in
+    let flagged : AreFlagged ts =
+    flags_taken ss mid put ts news c.args.inc next (next + length d.children) a d c.into_parts-parts.result.index c.marks_above-marks.result t c.self.invariant.orderly sound lives c.into_parts-parts.ensures.valid
+    (λ k. c.marks_above-marks.ensures k ∙ ap (λ (s : Tree). some_above (has_mark k) s.rows c.args.inc) (sym c.self.view_is)) c.into_parts-parts.ensures.marks c.into_parts-parts.ensures.rows c.self.invariant.flagged in
     record {
       room = omega (arith, has, c.self.invariant.room, c.push_block.ensures.len, c.push_block.ensures.capacity, c.swap_in.ensures.len, c.swap_in.ensures.capacity, c.change_in.ensures.len, c.change_in.ensures.capacity);
       fits = omega (arith, below, c.count-count.ensures);
@@ -65,6 +73,10 @@ invariant_of-self c =
       count = omega (arith, c.count-count.ensures, long, c.self.invariant.count);
       orderly = subst (λ n. IsOrderly (rows_in ts) (next + n)) (sym c.count-count.ensures) sound;
       indexed = subst (λ n. EachItem (IsIndexed (rows_in ts) (next + n)) ts) (sym c.count-count.ensures) indexed;
+      flagged = flagged;
+      wanted = known_grown c.self.inside.wanted c.args.inc c.args.inc next d.children (change_row (Resolve a d)) (gives_changed (Resolve a d)) (rows_in ss) (rows_in ts) rows c.self.invariant.wanted;
+      standing = standing_taken ss mid put ts news c.args.inc next (next + length d.children) a d c.into_parts-parts.result.index (option_copied c.kept_moniker-above.result) t c.self.invariant.orderly sound lives c.into_parts-parts.ensures.valid
+          (λ w e. if_kept c.kept_moniker-above.result (moniker_of c.args.self.now.rows c.args.inc) w c.kept_moniker-above.ensures e ∙ ap (λ (s : Tree). moniker_of s.rows c.args.inc) (sym c.self.view_is)) c.into_parts-parts.ensures.below c.into_parts-parts.ensures.rows c.self.invariant.standing;
     }
 
 pub returns-clause-rows : goal.returns-clause-rows

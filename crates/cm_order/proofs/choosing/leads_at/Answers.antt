@@ -1,1 +1,0 @@
-use Rattle.cm_order.proofs.choosing.leads_at.Goals as goal

@@ -1,0 +1,10 @@
+use Rattle.std.proofs.Common.{sym, ◌∙◌}
+use Rattle.cm_order.proofs.levels.Gathering.{kid_shut}
+use Rattle.cm_order.proofs.clearing.settle.Goals as goal
+
+pub returns : goal.returns
+returns g c =
+    c.in_ok-clear.ensures (g.V.View.rows c.args.view.now) c.args.parent c.requires.known (record {
+      free = c.requires.free.free;
+      shut = kid_shut (g.V.View.rows c.args.view.now) (g.V.View.next_inc c.args.view.now) c.requires.sound.orderly c.args.parent c.args.child c.requires.free.kid ∙ (sym c.in_ok-all_shut.ensures ∙ c.if-not-branch.false);
+    })

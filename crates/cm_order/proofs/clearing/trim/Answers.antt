@@ -1,0 +1,26 @@
+use Rattle.std.proofs.Common.{◌≡◌, IsTrue, sym, ◌∙◌, subst, inl, inr, ◌⊎◌, append-nil}
+use Rattle.cm_order.specs.Glances.{is_in_list, is_in_set}
+use Rattle.cm_order.proofs.levels.Lists.{listed_parts}
+use Rattle.cm_order.proofs.clearing.trim.Goals as goal
+
+pub loop-last-init : goal.loop-last-init
+loop-last-init c = λ z there. inl (subst (λ l. IsTrue (is_in_list l z)) (sym c.into_vec-left.ensures) there)
+
+pub returns-then-not-contains : goal.returns-then-not-contains
+returns-then-not-contains c =
+    let same : c.from_vec.result ≡ c.loop-last.left.items = c.from_vec.ensures ∙ c.in_ok-push.ensures.items ∙ sym c.in-Some.ensures.items in
+    λ z there. subst (λ l. IsTrue (is_in_list l z) ⊎ IsTrue (is_in_set c.args.cleared.now z)) (sym same) (c.loop-last.invariant z there)
+
+pub loop-last-preserved : goal.loop-last-preserved
+loop-last-preserved c = λ z there. elim (c.loop-last.invariant z there) [
+  | inl on ↦ (elim (listed_parts c.pop.new.self.items c.in-Some.last z (subst (λ l. IsTrue (is_in_list l z)) c.in-Some.ensures.items on)) [
+    | inl before ↦ inl before
+    | inr same ↦ inr (subst (λ k. IsTrue (is_in_set c.args.cleared.now k)) (sym same) (sym c.contains.ensures ∙ c.if-not-contains.false))
+  ])
+  | inr out ↦ inr out
+]
+
+pub returns : goal.returns
+returns c =
+    let same : c.from_vec-2.result ≡ c.loop-last.left.items = c.from_vec-2.ensures ∙ sym (append-nil c.pop.new.self.items) ∙ sym c.in_default.ensures.items in
+    λ z there. subst (λ l. IsTrue (is_in_list l z) ⊎ IsTrue (is_in_set c.args.cleared.now z)) (sym same) (c.loop-last.invariant z there)

@@ -1,0 +1,5 @@
+use Rattle.cm_order.specs.Glances.{KnowsDependents}
+use Rattle.cm_order.proofs.glance.open_child.Given as goal
+
+abbrev pub invariant-loop-turn : goal.invariant-loop-turn
+invariant-loop-turn g l = KnowsDependents (g.V.View.rows l.view) l.parent l.known

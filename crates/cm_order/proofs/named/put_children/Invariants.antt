@@ -1,9 +1,0 @@
-use Rattle.cm_order.proofs.levels.Gathering.{room}
-use Rattle.cm_order.proofs.names.Sources.{IsCovering}
-use Rattle.cm_order.proofs.named.put_children.Given as goal
-
-abbrev pub invariant-loop-child : goal.invariant-loop-child
-invariant-loop-child g l = IsCovering (g.V.View.rows l.view) l.asked.parent l.asked.look l.asked.wired l.behind l.initial.named l.named l.targets l.closed.items
-
-abbrev pub decreases-loop-child : goal.decreases-loop-child
-decreases-loop-child g l = room (g.V.View.next_inc l.view) l.behind

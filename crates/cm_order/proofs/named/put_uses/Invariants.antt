@@ -1,7 +1,0 @@
-use Rattle.std.proofs.Common.{take}
-use Rattle.cm_order.specs.Glances.{is_used_from}
-use Rattle.cm_order.proofs.names.Sources.{IsPutting}
-use Rattle.cm_order.proofs.named.put_uses.Given as goal
-
-abbrev pub invariant-loop-usage : goal.invariant-loop-usage
-invariant-loop-usage g l = IsPutting l.parent (is_used_from (g.V.View.rows l.view) l.parent) (take l.usage-index l.uses) l.initial.named l.named

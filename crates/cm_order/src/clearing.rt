@@ -1,0 +1,248 @@
+//! How what is known of a level changes: nodes are cleared, and children become free.
+
+ghost use Rattle.std.specs.Prelude.{◌≡◌, ◌&&◌, ℕ, List as Seq, false, IsTrue, IfOk, OnOk, ◌⊎◌};
+ghost use Rattle.std.specs.List.{list_any};
+ghost use Rattle.std.specs.Option.{option_map_or};
+ghost use Rattle.cm_decl.specs.Graph.{is_strong, is_from_child};
+ghost use Rattle.cm_world.specs.declared.row.Row.{Row};
+ghost use Rattle.cm_world.specs.Rows.{decl_of};
+ghost use Rattle.cm_world.specs.Sound.{IsSound};
+ghost use Rattle.cm_order.specs.Kids.{IsKid};
+ghost use Rattle.cm_order.specs.Glances.{is_in_list, is_in_set, IsFreeKid, IsCleared, KnowsDependents};
+
+use crate::above::is_unshut;
+use crate::below::all_shut;
+use crate::dependents::Dependents;
+use cm_decl::{Origin, Usage};
+use cm_names::{Dependency, List, Memory};
+use cm_world::View;
+use std::alloc::Global;
+use std::collections::BTreeSet;
+
+/// Whether a child is free and there is something to be shut at or below it. One that is free and all
+/// shut is cleared, if another waits for it.
+pub(crate) fn is_open<V: View>(
+    alloc: Global,
+    view: &V,
+    known: &mut Dependents,
+    parent: u64,
+    child: u64,
+) -> Result<bool, Memory>
+    requires sound { IsSound (V.rows view.now) (V.next_inc view.now) }
+    requires known { KnowsDependents (V.rows view.now) parent known.old }
+    ensures left { IfOk result (λ yet. IsTrue yet → IsFreeKid (V.rows view.now) parent child) }
+    ensures known { OnOk result (KnowsDependents (V.rows view.now) parent known.new) }
+{
+    if !is_free_child(view, known, parent, child) {
+        return Ok(false);
+    }
+    if is_left(alloc, view, child)? {
+        return Ok(true);
+    }
+    settle(alloc, view, known, parent, child)?;
+    Ok(false)
+}
+
+/// Whether a child is free, once nodes that depend on it and are all shut are cleared. `false` says
+/// nothing.
+pub(crate) fn becomes_free<V: View>(
+    alloc: Global,
+    view: &V,
+    known: &mut Dependents,
+    parent: u64,
+    child: u64,
+) -> Result<bool, Memory>
+    requires sound { IsSound (V.rows view.now) (V.next_inc view.now) }
+    requires known { KnowsDependents (V.rows view.now) parent known.old }
+    ensures free { IfOk result (λ free. IsTrue free → IsFreeKid (V.rows view.now) parent child) }
+    ensures known { OnOk result (KnowsDependents (V.rows view.now) parent known.new) }
+{
+    for _turn in 0..u64::MAX {
+        let Some(client) = known.last_client(child) else {
+            return Ok(is_free_child(view, known, parent, child));
+        };
+        if !is_cleared(alloc, view, known, parent, client)? {
+            return Ok(false);
+        }
+        release(known, child)?;
+    }
+    Ok(false)
+}
+
+/// Whether a node is known to be cleared, or is a free child that is all shut. `false` says nothing.
+fn is_cleared<V: View>(
+    alloc: Global,
+    view: &V,
+    known: &mut Dependents,
+    parent: u64,
+    node: u64,
+) -> Result<bool, Memory>
+    requires sound { IsSound (V.rows view.now) (V.next_inc view.now) }
+    requires known { KnowsDependents (V.rows view.now) parent known.old }
+    ensures { OnOk result (KnowsDependents (V.rows view.now) parent known.new) }
+{
+    if known.cleared.contains(&node) {
+        return Ok(true);
+    }
+    if !is_free_child(view, known, parent, node) {
+        return Ok(false);
+    }
+    settle(alloc, view, known, parent, node)?;
+    Ok(known.cleared.contains(&node))
+}
+
+/// Whether an instance is a child of the other, and free at its level, as far as that is known.
+pub(crate) fn is_free_child<V: View>(view: &V, known: &Dependents, parent: u64, child: u64) -> bool
+    requires sound { IsSound (V.rows view.now) (V.next_inc view.now) }
+    requires known { KnowsDependents (V.rows view.now) parent known.now }
+    ensures { IsTrue result → IsFreeKid (V.rows view.now) parent child }
+{
+    if !is_child(view, parent, child) {
+        return false;
+    }
+    known.is_free(child)
+}
+
+/// Whether an instance is a child of the other.
+fn is_child<V: View>(view: &V, parent: u64, child: u64) -> bool
+    ensures { IsTrue result → IsKid (V.rows view.now) parent child }
+{
+    let Some(facts) = view.facts(child) else {
+        return false;
+    };
+    match facts.parent {
+        None => false,
+        Some(above) => above == parent,
+    }
+}
+
+/// Whether there is something to be shut at or below an instance. Where it is shut itself, what
+/// is below it is looked at only if it uses a child: all other children stopped before it.
+fn is_left<V: View>(alloc: Global, view: &V, inc: u64) -> Result<bool, Memory> {
+    if is_unshut(view, inc) {
+        return Ok(true);
+    }
+    if uses_child(view, inc) {
+        return Ok(!all_shut(alloc, view, inc)?);
+    }
+    Ok(false)
+}
+
+/// Whether an instance strongly uses something of a child.
+pub(crate) fn uses_child<V: View>(view: &V, inc: u64) -> bool
+    ensures { result ≡ option_map_or (λ d. list_any (λ u. is_strong u.dependency &&
+        is_from_child u.from) d.uses) (decl_of (V.rows view.now) inc) false }
+{
+    match view.decl(inc) {
+        None => false,
+        Some(decl) => are_of_child(decl.uses.as_slice()),
+    }
+}
+
+/// Whether something of these is strongly used of a child.
+fn are_of_child(uses: &[Usage]) -> bool
+    ensures { result ≡ list_any (λ u. is_strong u.dependency && is_from_child u.from) uses.now }
+{
+    uses.iter().any(|usage| is_of_child(usage))
+}
+
+/// Whether something is strongly used of a child.
+fn is_of_child(usage: &Usage) -> bool
+    ensures { result ≡ (is_strong usage.now.dependency && is_from_child usage.now.from) }
+{
+    of_strong(usage.dependency) && of_child(&usage.from)
+}
+
+/// Whether the dependency is strong.
+fn of_strong(dependency: Dependency) -> bool
+    ensures { result ≡ is_strong dependency }
+{
+    dependency == Dependency::Strong
+}
+
+/// Whether the source is a child.
+fn of_child(source: &Origin) -> bool
+    ensures { result ≡ is_from_child source.now }
+{
+    matches!(source, Origin::Child(_))
+}
+
+/// Clears a free child, if it is all shut and another waits for it.
+fn settle<V: View>(
+    alloc: Global,
+    view: &V,
+    known: &mut Dependents,
+    parent: u64,
+    child: u64,
+) -> Result<(), Memory>
+    requires sound { IsSound (V.rows view.now) (V.next_inc view.now) }
+    requires known { KnowsDependents (V.rows view.now) parent known.old }
+    requires free { IsFreeKid (V.rows view.now) parent child }
+    ensures { OnOk result (KnowsDependents (V.rows view.now) parent known.new) }
+{
+    if !known.edges.sources.contains_key(&child) {
+        return Ok(());
+    }
+    if !all_shut(alloc, view, child)? {
+        return Ok(());
+    }
+    clear(known, child)?;
+    Ok(())
+}
+
+/// Puts down that a node is cleared, and finds the children that become free by that.
+fn clear(known: &mut Dependents, node: u64) -> Result<(), Memory>
+    ensures { OnOk result ((rows : Seq Row) (p : ℕ) → KnowsDependents rows p known.old →
+        IsCleared rows p node → KnowsDependents rows p known.new) }
+{
+    known.cleared.insert(node)?;
+    let Some(sources) = known.edges.sources.remove(&node) else {
+        return Ok(());
+    };
+    release_all(known, sources.as_slice())?;
+    Ok(())
+}
+
+/// Leaves what is cleared out of the lists of these children.
+fn release_all(known: &mut Dependents, children: &[u64]) -> Result<(), Memory>
+    ensures { OnOk result ((rows : Seq Row) (p : ℕ) → KnowsDependents rows p known.old →
+        KnowsDependents rows p known.new) }
+{
+    for child in children {
+        release(known, *child)?;
+    }
+    Ok(())
+}
+
+/// Leaves what is cleared at the end of a child's list out of it. A child whose list is empty then
+/// is put down as one that is free.
+fn release(known: &mut Dependents, child: u64) -> Result<(), Memory>
+    ensures { OnOk result ((rows : Seq Row) (p : ℕ) → KnowsDependents rows p known.old →
+        KnowsDependents rows p known.new) }
+{
+    let Some(list) = known.edges.clients.remove(&child) else {
+        return Ok(());
+    };
+    let clients = trim(&known.cleared, list)?;
+    if clients.is_empty() {
+        known.open.push_back(child)?;
+        return Ok(());
+    }
+    known.edges.clients.insert(child, clients)?;
+    Ok(())
+}
+
+/// A list without what is cleared at its end.
+fn trim(cleared: &BTreeSet<u64>, list: List<u64>) -> Result<List<u64>, Memory>
+    ensures { IfOk result (λ left. (z : ℕ) → IsTrue (is_in_list list z) →
+        IsTrue (is_in_list left z) ⊎ IsTrue (is_in_set cleared.now z)) }
+{
+    let mut left = list.into_vec();
+    while let Some(last) = left.pop() {
+        if !cleared.contains(&last) {
+            left.push(last)?;
+            return Ok(List::from_vec(left));
+        }
+    }
+    Ok(List::from_vec(left))
+}

@@ -1,0 +1,143 @@
+-- The children of a row that aren't flagged, one behind another.
+use Rattle.std.proofs.Common.{◌≡◌, ℕ, ◌<◌, ◌≤◌, ◌+◌, ◌-◌, List, [], ◌∷◌, Bool, true, false, cond, ◌&&◌, ◌==◌, nat_eq, nat_lt, true≢false, Option, Some, None, IsTrue, find, option_map, refl, sym, ◌∙◌, ap, subst, inl, inr, ◌⊎◌, arith}
+use Rattle.std.specs.Option.{option_eq}
+use Rattle.std.specs.Cmp.{unsigned_Decides}
+use Rattle.std.proofs.lemmas.Bool.{lt-ltb, ltb-true, and_from}
+use Rattle.cm_decl.proofs.Sameness.{and_first, and_second}
+use Rattle.cm_world.specs.declared.row.Row.{Row}
+use Rattle.cm_world.specs.Rows.{row_of, has_parent}
+use Rattle.cm_world.specs.RowsInside.{is_behind, child_behind}
+use Rattle.cm_world.specs.Sound.{IncarnationsIncrease, IsOrderly}
+use Rattle.cm_world.proofs.trees.Finding.{none_some, some_same, row_of-inc, find-passes}
+use Rattle.cm_world.proofs.trees.Walks.{find-lives, parent_is}
+use Rattle.cm_table.specs.declared.marks.MarkKind.{MarkKind}
+use Rattle.cm_table.specs.declared.slot.Slot.{Slot}
+use Rattle.cm_table.specs.Flags.{flag_of}
+use Rattle.cm_table.specs.Leaf.{IsChildOf}
+use Rattle.cm_table.specs.Marking.{IsOpenChild, AreAllFlagged}
+use Rattle.cm_table.specs.Slots.{rows_in}
+use Rattle.cm_table.proofs.tree.Rows.{is_some_by, lives_below}
+
+-- ---- the first that is found
+
+least_by : (a b : Bool) (q : Row → Bool) (x : Row) (xs : List Row) (next i : ℕ) (r s : Row) → q x ≡ a → (x.inc == i) ≡ b → IncarnationsIncrease next (x ∷ xs) → (find q xs ≡ Some r → row_of xs i ≡ Some s → r.inc ≤ i) → cond a (Some x) (find q xs) ≡ Some r → cond b (Some x) (row_of xs i) ≡ Some s → IsTrue (q s) → r.inc ≤ i
+least_by true true q x xs next i r s here at increasing later found lives passes =
+    let own : x.inc ≡ i = (unsigned_Decides x.inc i).0 at in
+    let same : x.inc ≡ r.inc = ap (λ z. z.inc) (some_same x r found) in
+    omega arith
+least_by true false q x xs next i r s here at increasing later found lives passes =
+    let low : x.inc < i = increasing.0.1 i (is_some_by (row_of xs i) s lives) in
+    let same : x.inc ≡ r.inc = ap (λ z. z.inc) (some_same x r found) in
+    omega arith
+least_by false true q x xs next i r s here at increasing later found lives passes =
+    absurd (true≢false (sym passes ∙ sym (ap q (some_same x s lives)) ∙ here))
+least_by false false q x xs next i r s here at increasing later found lives passes = later found lives
+
+-- the row that is found first has no higher incarnation than any row that passes
+find_least : (q : Row → Bool) (rows : List Row) (next i : ℕ) (r s : Row) → IncarnationsIncrease next rows → find q rows ≡ Some r → row_of rows i ≡ Some s → IsTrue (q s) → r.inc ≤ i
+find_least q [] next i r s increasing found lives passes = absurd (none_some r found)
+find_least q (x ∷ xs) next i r s increasing found lives passes =
+    least_by (q x) (x.inc == i) q x xs next i r s refl refl increasing (λ f l. find_least q xs next i r s increasing.1 f l passes) found lives passes
+
+some_by : (a b : Bool) (q : Row → Bool) (x s : Row) (o t : Option Row) → q x ≡ a → (t ≡ Some s → o ≡ None → ⊥) → cond b (Some x) t ≡ Some s → IsTrue (q s) → cond a (Some x) o ≡ None → ⊥
+some_by true b q x s o t here later lives passes none = none_some x (sym none)
+some_by false true q x s o t here later lives passes none = true≢false (sym passes ∙ sym (ap q (some_same x s lives)) ∙ here)
+some_by false false q x s o t here later lives passes none = later lives none
+
+-- where nothing is found, no row that lives passes
+none_passes : (q : Row → Bool) (rows : List Row) (i : ℕ) (s : Row) → row_of rows i ≡ Some s → IsTrue (q s) → find q rows ≡ None → ⊥
+none_passes q [] i s lives passes none = none_some s lives
+none_passes q (x ∷ xs) i s lives passes none =
+    some_by (q x) (x.inc == i) q x s (find q xs) (row_of xs i) refl (λ l n. none_passes q xs i s l passes n) lives passes none
+
+-- ---- the next child
+
+kid_passes : (rows : List Row) (p i : ℕ) (after : Option ℕ) (r : Row) → row_of rows i ≡ Some r → r.parent ≡ Some p → IsTrue (is_behind after i) → IsTrue (has_parent p r && is_behind after r.inc)
+kid_passes rows p i after r here up behind =
+    and_from (has_parent p r) (is_behind after r.inc)
+    (ap (λ o. option_eq nat_eq o (Some p)) up ∙ (unsigned_Decides p p).1 refl)
+    (ap (is_behind after) (row_of-inc rows i r here) ∙ behind)
+
+no_kid_by : (rows : List Row) (p i : ℕ) (after : Option ℕ) (r : Row) (o : Option Row) → find (λ z. has_parent p z && is_behind after z.inc) rows ≡ o → None ≡ option_map (λ z. z.inc) o → row_of rows i ≡ Some r → r.parent ≡ Some p → IsTrue (is_behind after i) → ⊥
+no_kid_by rows p i after r None found e here up behind = none_passes (λ z. has_parent p z && is_behind after z.inc) rows i r here (kid_passes rows p i after r here up behind) found
+no_kid_by rows p i after r (Some z) found e here up behind = none_some z.inc e
+
+-- where none is found, there is none
+no_kid : (rows : List Row) (p i : ℕ) (after : Option ℕ) (r : Row) → None ≡ child_behind rows p after → row_of rows i ≡ Some r → r.parent ≡ Some p → IsTrue (is_behind after i) → ⊥
+no_kid rows p i after r e = no_kid_by rows p i after r (find (λ z. has_parent p z && is_behind after z.inc) rows) refl e
+
+-- what the next child is
+record IsNextKid (rows : List Row) (p : ℕ) (after : Option ℕ) (c : ℕ) : Type 0 where
+  child : IsChildOf rows p c
+  behind : IsTrue (is_behind after c)
+  least : (i : ℕ) (r : Row) → row_of rows i ≡ Some r → r.parent ≡ Some p → IsTrue (is_behind after i) → c ≤ i
+
+next_kid_by : (rows : List Row) (next p c : ℕ) (after : Option ℕ) (o : Option Row) → IsOrderly rows next → find (λ z. has_parent p z && is_behind after z.inc) rows ≡ o → Some c ≡ option_map (λ z. z.inc) o → IsNextKid rows p after c
+next_kid_by rows next p c after None orderly found e = absurd (none_some c (sym e))
+next_kid_by rows next p c after (Some z) orderly found e =
+    let own : z.inc ≡ c = some_same z.inc c (sym e) in
+    let passes : IsTrue (has_parent p z && is_behind after z.inc) = find-passes (λ y. has_parent p y && is_behind after y.inc) rows z found in
+    record {
+      child = record {
+        row = z;
+        lives = subst (λ i. row_of rows i ≡ Some z) own (find-lives (λ y. has_parent p y && is_behind after y.inc) rows next z orderly.increasing found);
+        under = parent_is p z.parent (and_first (has_parent p z) (is_behind after z.inc) passes);
+      };
+      behind = subst (λ i. IsTrue (is_behind after i)) own (and_second (has_parent p z) (is_behind after z.inc) passes);
+      least = λ i r here up later. subst (λ n. n ≤ i) own (find_least (λ y. has_parent p y && is_behind after y.inc) rows next i z r orderly.increasing found here (kid_passes rows p i after r here up later));
+    }
+
+next_kid : (rows : List Row) (next p c : ℕ) (after : Option ℕ) → IsOrderly rows next → Some c ≡ child_behind rows p after → IsNextKid rows p after c
+next_kid rows next p c after orderly e = next_kid_by rows next p c after (find (λ z. has_parent p z && is_behind after z.inc) rows) orderly refl e
+
+-- ---- how many children can be left
+
+abbrev pub room : ℕ → Option ℕ → ℕ
+room next None = next + 1
+room next (Some b) = next - b
+
+room_by : (next c : ℕ) (after : Option ℕ) → c < next → IsTrue (is_behind after c) → room next (Some c) < room next after
+room_by next c None high behind = omega arith
+room_by next c (Some b) high behind = let low : b < c = ltb-true b c behind in omega arith
+
+pub room_less : (rows : List Row) (next p c : ℕ) (after : Option ℕ) → IsOrderly rows next → Some c ≡ child_behind rows p after → room next (Some c) < room next after
+room_less rows next p c after orderly e =
+    let n : IsNextKid rows p after c = next_kid rows next p c after orderly e in
+    room_by next c after (lives_below rows next c n.child.row orderly.increasing n.child.lives) n.behind
+
+-- ---- from child to child
+
+-- each child behind one is flagged, or still comes
+abbrev pub AreFlaggedUpto : MarkKind → List Slot → ℕ → Option ℕ → Option ℕ → Type 0
+AreFlaggedUpto k ss p after last = (i : ℕ) (r : Row) → row_of (rows_in ss) i ≡ Some r → r.parent ≡ Some p → IsTrue (is_behind after i)
+    → (flag_of k ss i ≡ true) ⊎ IsTrue (is_behind last i)
+
+pub none_yet : (k : MarkKind) (ss : List Slot) (p : ℕ) (after : Option ℕ) → AreFlaggedUpto k ss p after after
+none_yet k ss p after i r here up behind = inr behind
+
+same_or_later : (k : MarkKind) (ss : List Slot) (c i : ℕ) → c ≤ i → flag_of k ss c ≡ true → (flag_of k ss i ≡ true) ⊎ IsTrue (nat_lt c i)
+same_or_later k ss c i low flag = by (c == i) refl where
+  by : (t : Bool) → (c == i) ≡ t → (flag_of k ss i ≡ true) ⊎ IsTrue (nat_lt c i)
+  by true e = inl (subst (λ n. flag_of k ss n ≡ true) ((unsigned_Decides c i).0 e) flag)
+  by false e = inr (lt-ltb c i (let apart : c ≡ i → ⊥ = λ same. true≢false (sym ((unsigned_Decides c i).1 same) ∙ e) in omega arith))
+
+one_more_by : (k : MarkKind) (ss : List Slot) (p c i : ℕ) (last : Option ℕ) (r : Row) → IsNextKid (rows_in ss) p last c → flag_of k ss c ≡ true → row_of (rows_in ss) i ≡ Some r → r.parent ≡ Some p → (flag_of k ss i ≡ true) ⊎ IsTrue (is_behind last i) → (flag_of k ss i ≡ true) ⊎ IsTrue (nat_lt c i)
+one_more_by k ss p c i last r n flag here up (inl done) = inl done
+one_more_by k ss p c i last r n flag here up (inr behind) = same_or_later k ss c i (n.least i r here up behind) flag
+
+pub one_more : (k : MarkKind) (ss : List Slot) (next p c : ℕ) (after last : Option ℕ) → IsOrderly (rows_in ss) next → Some c ≡ child_behind (rows_in ss) p last → flag_of k ss c ≡ true → AreFlaggedUpto k ss p after last → AreFlaggedUpto k ss p after (Some c)
+one_more k ss next p c after last orderly e flag so_far i r here up behind =
+    one_more_by k ss p c i last r (next_kid (rows_in ss) next p c last orderly e) flag here up (so_far i r here up behind)
+
+all_seen_by : (k : MarkKind) (ss : List Slot) (p i : ℕ) (last : Option ℕ) (r : Row) → None ≡ child_behind (rows_in ss) p last → row_of (rows_in ss) i ≡ Some r → r.parent ≡ Some p → (flag_of k ss i ≡ true) ⊎ IsTrue (is_behind last i) → flag_of k ss i ≡ true
+all_seen_by k ss p i last r e here up (inl done) = done
+all_seen_by k ss p i last r e here up (inr behind) = absurd (no_kid (rows_in ss) p i last r e here up behind)
+
+pub all_seen : (k : MarkKind) (ss : List Slot) (p : ℕ) (after last : Option ℕ) → None ≡ child_behind (rows_in ss) p last → AreFlaggedUpto k ss p after last → AreAllFlagged k ss p after
+all_seen k ss p after last e so_far i r here up behind = all_seen_by k ss p i last r e here up (so_far i r here up behind)
+
+-- a child that isn't flagged
+pub open_found : (k : MarkKind) (ss : List Slot) (next p c : ℕ) (last : Option ℕ) → IsOrderly (rows_in ss) next → Some c ≡ child_behind (rows_in ss) p last → flag_of k ss c ≡ false → IsOpenChild k ss p c
+open_found k ss next p c last orderly e flag =
+    let n : IsNextKid (rows_in ss) p last c = next_kid (rows_in ss) next p c last orderly e in
+    record { row = n.child.row; lives = n.child.lives; under = n.child.under; unmarked = flag }

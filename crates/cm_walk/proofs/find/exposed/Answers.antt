@@ -1,0 +1,7 @@
+use Rattle.std.proofs.Common.{◌∙◌}
+use Rattle.cm_walk.proofs.routes.Offers.{expose_by_index}
+use Rattle.cm_walk.proofs.find.exposed.Goals as goal
+
+pub returns-then-index-lt4294967295 : goal.returns-then-index-lt4294967295
+returns-then-index-lt4294967295 c = λ told.
+    c.get.ensures ∙ expose_by_index c.args.kind c.args.name.now c.args.decl.now c.args.index told c.if-index-lt4294967295.true
