@@ -3,3 +3,4 @@ pub mod bytes
 pub mod scripts
 pub mod line
 pub mod written
+pub mod Crossing

@@ -2,3 +2,4 @@ pub mod lines
 pub mod phases
 pub mod merged
 pub mod ends
+pub mod Crossing

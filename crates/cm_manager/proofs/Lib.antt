@@ -4,3 +4,4 @@ pub mod onward
 pub mod shutdowns
 pub mod starts
 pub mod checks
+pub mod Crossing

@@ -2,3 +2,4 @@ pub mod Ends
 pub mod prefixes
 pub mod texts
 pub mod sets
+pub mod Crossing

@@ -4,3 +4,4 @@ pub mod steps
 pub mod actions
 pub mod asked
 pub mod Planning
+pub mod Crossing

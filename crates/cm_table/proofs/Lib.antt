@@ -7,3 +7,4 @@ pub mod monikers
 pub mod Seeking
 pub mod SeekingUses
 pub mod SeekingNamed
+pub mod Crossing

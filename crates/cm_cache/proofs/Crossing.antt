@@ -1,0 +1,61 @@
+-- These types hold monikers, and may go to other threads or be shared with them.
+use denote.Param.Send as send
+use denote.Param.Send.{IsSend}
+use denote.Struct.Declared as struct
+use Rattle.std.proofs.Crossing.{Box-send, Vec-send}
+use Rattle.std.proofs.MapsCrossing.{BTreeMap-send}
+use Rattle.cm_world.proofs.Crossing.{walked_field_send}
+use Rattle.cm_cache.specs.contracts.answer.CachedAnswer
+use Rattle.cm_cache.specs.contracts.cache.Cache
+use Rattle.cm_cache.specs.contracts.cache.Cache.TheInside as CacheInside
+use Rattle.cm_cache.specs.contracts.keeper.Keeper
+use Rattle.cm_cache.specs.contracts.keeper.Keeper.TheInside as KeeperInside
+use Rattle.cm_cache.specs.contracts.keeper.KeeperParts
+use Rattle.cm_names.proofs.path.CapPath.TheSendSync as cap_path
+use Rattle.std.proofs.alloc.Global.TheSendSync as global
+
+pub cached_answer_field_send : IsSend (CachedAnswer.the_field).row
+cached_answer_field_send = send.struct_send (struct.shape CachedAnswer.the_type) (
+  send.plain_send _ _ _ _ _,
+  (cap_path.the_send, (walked_field_send, tt)),
+)
+
+pub cached_answer_send : IsSend CachedAnswer.the_row
+cached_answer_send = send.recorded_send (CachedAnswer.the_field).row _ _ (CachedAnswer.the_type).to_one
+    cached_answer_field_send
+
+pub cache_send : IsSend Cache.the_row
+cache_send = send.view_send CacheInside.the_row _ _ _ _ (send.recorded_send (CacheInside.the_field).row _ _
+    (CacheInside.the_type).to_one (send.struct_send (struct.shape CacheInside.the_type) (
+      global.the_field_send,
+      (
+        Vec-send _ cached_answer_send,
+        (
+          BTreeMap-send _ _ _ _ _ (send.plain_send _ _ _ _
+              _) (BTreeMap-send _ _ _ _ _ cap_path.the_send (send.plain_send _ _ _ _ _)),
+          tt,
+        ),
+      ),
+    )))
+
+pub keeper_parts_field_send : IsSend (KeeperParts.the_field).row
+keeper_parts_field_send = send.struct_send (struct.shape KeeperParts.the_type) (
+  cache_send,
+  (
+    send.plain_send
+        _ _ _ _ _,
+    tt,
+  ),
+)
+
+pub keeper_parts_send : IsSend KeeperParts.the_row
+keeper_parts_send = send.recorded_send (KeeperParts.the_field).row _ _ (KeeperParts.the_type).to_one
+    keeper_parts_field_send
+
+pub keeper_send : IsSend Keeper.the_row
+keeper_send = send.view_send KeeperInside.the_row _ _ _ _ (send.recorded_send (KeeperInside.the_field).row _
+    _ (KeeperInside.the_type).to_one (send.struct_send (struct.shape KeeperInside.the_type) (
+      Box-send _
+          keeper_parts_send,
+      tt,
+    )))

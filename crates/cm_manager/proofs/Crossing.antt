@@ -1,0 +1,27 @@
+-- These types hold monikers, and may go to other threads or be shared with them.
+use denote.Param.Send as send
+use denote.Param.Send.{IsSend, IsSync}
+use denote.Struct.Declared as struct
+use Rattle.cm_steps.proofs.Crossing.{realm_send}
+use Rattle.cm_manager.specs.contracts.manager.Manager
+use Rattle.cm_manager.specs.contracts.manager.Manager.TheInside as ManagerInside
+use Rattle.cm_names.proofs.text.Text.TheSendSync as text
+use Rattle.cm_names.specs.contracts.text.Text
+use Rattle.cm_repo.proofs.repository.Repository.TheSendSync as repository
+use Rattle.cm_turn.proofs.turn.Turn.TheSendSync as turn
+use Rattle.std.proofs.option.Option.TheSendSync as option
+
+pub manager_sync : IsSync Manager.the_row
+manager_sync = send.view_sync ManagerInside.the_row _ _ _ _ (send.recorded_sync
+    (ManagerInside.the_field).row _ _ (ManagerInside.the_type).to_one (send.struct_sync (struct.shape
+    ManagerInside.the_type) (
+      turn.the_sync _ _ _ _ realm_send,
+      (
+        repository.the_sync,
+        (
+          option.the_field_sync
+              Text.the_row text.the_sync,
+          tt,
+        ),
+      ),
+    )))

@@ -1,0 +1,47 @@
+-- These types hold monikers, and may go to other threads or be shared with them.
+use denote.Param.Send as send
+use denote.Param.Send.{IsSend}
+use denote.Struct.Declared as struct
+use Rattle.std.proofs.Crossing.{Vec-send}
+use Rattle.cm_table.proofs.Crossing.{table_send}
+use Rattle.cm_book.proofs.Crossing.{book_send}
+use Rattle.cm_cache.proofs.Crossing.{keeper_send}
+use Rattle.cm_names.proofs.boxed.Boxed.TheSendSync as boxed
+use Rattle.cm_order.proofs.plan.DescentPlan.TheSendSync as descent_plan
+use Rattle.cm_steps.specs.contracts.realm.Realm
+use Rattle.cm_steps.specs.contracts.realm.Realm.TheInside as RealmInside
+use Rattle.cm_steps.specs.contracts.records.Recorded
+use Rattle.cm_world.proofs.action.Act.TheSendSync as act
+use Rattle.cm_world.proofs.action.Join.TheSendSync as join
+use Rattle.cm_world.proofs.frame.Frame.TheSendSync as frame
+use Rattle.cm_world.specs.contracts.frame.Frame
+
+pub recorded_field_send : IsSend (Recorded.the_field).row
+recorded_field_send = send.struct_send (struct.shape Recorded.the_type) (
+  book_send,
+  (
+    keeper_send,
+    (descent_plan.the_field_send, tt),
+  ),
+)
+
+pub realm_send : IsSend Realm.the_row
+realm_send = send.view_send RealmInside.the_row _ _ _ _ (send.recorded_send (RealmInside.the_field).row _ _
+    (RealmInside.the_type).to_one (send.struct_send (struct.shape RealmInside.the_type) (
+      boxed.the_send
+          Frame.the_row frame.the_send,
+      (
+        table_send,
+        (
+          Vec-send _ act.the_send,
+          (
+            send.plain_send _ _ _ _ _,
+            (
+              Vec-send
+                  _ join.the_send,
+              (recorded_field_send, tt),
+            ),
+          ),
+        ),
+      ),
+    )))
