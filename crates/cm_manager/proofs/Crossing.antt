@@ -1,8 +1,9 @@
--- These types hold monikers, and may go to other threads or be shared with them.
+-- A manager holds monikers, and may be shared with other threads.
 use denote.Param.Send as send
-use denote.Param.Send.{IsSend, IsSync}
+use denote.Param.Send.{IsSync}
 use denote.Struct.Declared as struct
 use Rattle.cm_steps.proofs.Crossing.{realm_send}
+use Rattle.cm_manager.proofs.permit.Permit.TheSendSync as permit
 use Rattle.cm_manager.specs.contracts.manager.Manager
 use Rattle.cm_manager.specs.contracts.manager.Manager.TheInside as ManagerInside
 use Rattle.cm_names.proofs.text.Text.TheSendSync as text
@@ -12,16 +13,8 @@ use Rattle.cm_turn.proofs.turn.Turn.TheSendSync as turn
 use Rattle.std.proofs.option.Option.TheSendSync as option
 
 pub manager_sync : IsSync Manager.the_row
-manager_sync = send.view_sync ManagerInside.the_row _ _ _ _ (send.recorded_sync
-    (ManagerInside.the_field).row _ _ (ManagerInside.the_type).to_one (send.struct_sync (struct.shape
-    ManagerInside.the_type) (
+manager_sync = send.view_sync ManagerInside.the_row _ _ _ _ (send.recorded_sync (ManagerInside.the_field).row _ _
+    (ManagerInside.the_type).to_one (send.struct_sync (struct.shape ManagerInside.the_type) (
       turn.the_sync _ _ _ _ realm_send,
-      (
-        repository.the_sync,
-        (
-          option.the_field_sync
-              Text.the_row text.the_sync,
-          tt,
-        ),
-      ),
+      (permit.the_sync, (repository.the_sync, (option.the_field_sync Text.the_row text.the_sync, tt))),
     )))

@@ -78,7 +78,7 @@ impl Manager {
     }
 
     /// Finds the instance that a target names, and answers a question of it.
-    pub(crate) fn call<R: Threads + Wait + Sync, G: Gates>(
+    fn find_and_answer<R: Threads + Wait + Sync, G: Gates>(
         &self,
         rt: &R,
         alloc: Global,
@@ -97,6 +97,27 @@ impl Manager {
             Ok(inc) => self.answer(rt, alloc, pass, gates, inc, question),
             Err(refusal) => (pass, Err(refusal)),
         }
+    }
+
+    /// Finds the instance that a target names, and answers a question of it. It gives the permit
+    /// back.
+    pub(crate) fn call<R: Threads + Wait + Sync, G: Gates>(
+        &self,
+        rt: &R,
+        alloc: Global,
+        pass: Pass<Entry, Frame>,
+        gates: &mut G,
+        target: &Target,
+        question: Question<'_>,
+    ) -> (Pass<Entry, Frame>, Result<Answer, Refusal>)
+        requires lock { pass.lock ≡ self.now.turn.lock }
+        ensures performs { PerformsWith G.log G.faults self.now.manifests
+            (asked_by target.now question.entry)
+            pass result.0 gates.old gates.new result.1 }
+    {
+        let (pass, answer) = self.find_and_answer(rt, alloc, pass, gates, target, question);
+        self.permit.give_back(pass.caller());
+        (pass, answer)
     }
 
     /// Resolves an instance, as `ResolveInstance` of `fuchsia.sys2.LifecycleController` does:

@@ -12,6 +12,7 @@ mod doctor;
 pub mod laws;
 pub mod manager;
 mod parts;
+mod permit;
 mod shutting;
 mod starting;
 mod streaming;

@@ -8,6 +8,7 @@ ghost use Rattle.cm_manager.specs.Managers.{BearsPassesOut, IsBookOf};
 ghost use Rattle.cm_manager.specs.Closed.{HasEnds};
 ghost use Rattle.cm_manager.specs.Asking.{frame_of};
 
+use crate::permit::Permit;
 use cm_book::Book;
 use cm_names::{List, Text};
 use cm_repo::Repository;
@@ -19,10 +20,12 @@ use std::marker::Model;
 
 /// The manager of a realm, which many callers share.
 ///
-/// It holds a turn lock round the realm, the manifests that were given with it, and the name of
-/// the repository of which the gates are asked for others. Contracts see the lock and these two.
+/// It holds a turn lock round the realm, a permit in front of that lock, the manifests that were given
+/// with it, and the name of the repository of which the gates are asked for others. Contracts see the
+/// lock, the manifests and that name.
 pub struct Manager {
     pub(crate) turn: Turn<Realm>,
+    pub(crate) permit: Permit,
     pub(crate) repository: Repository,
     pub(crate) repo: Option<Text>,
 }
@@ -33,6 +36,7 @@ impl Drop for Manager {
     fn drop(self) {
         let Manager {
             turn: _,
+            permit: _,
             repository: _,
             repo: _,
         } = self;
@@ -72,10 +76,14 @@ impl Manager {
             made.0.manifests ≡ record { repo = repo; blocks = repository }) }
         ensures err { IfErr result (λ back. back ≡ realm) }
     {
+        let Ok(permit) = Permit::new(alloc) else {
+            return Err(realm);
+        };
         match Turn::new(alloc, realm, passes) {
             Ok((turn, list)) => {
                 let manager = Manager {
                     turn,
+                    permit,
                     repository,
                     repo,
                 };
@@ -129,6 +137,7 @@ impl Manager {
     {
         let Manager {
             turn,
+            permit: _,
             repository: _,
             repo: _,
         } = self;

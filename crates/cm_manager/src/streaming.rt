@@ -72,6 +72,7 @@ impl Manager {
         ensures streamed { StreamedBy inc from pass result.0 result.1 }
     {
         let caller = pass.caller();
+        self.permit.take(rt, caller);
         let mut held = self.turn.enter(rt, pass);
         let went = stream_at(held.state(), alloc, caller, inc, from);
         (self.turn.leave(held), answer_in(went))

@@ -168,6 +168,7 @@ impl Manager {
         ensures mine { result.0.mine ≡ pass.mine }
         ensures once { result.1 ≡ runs_once (world_after (frame_of pass) result.0.seen).rows inc }
     {
+        self.permit.take(rt, pass.caller());
         let mut held = self.turn.enter(rt, pass);
         let once = runs_once_in(held.state(), inc);
         (self.turn.leave(held), once)

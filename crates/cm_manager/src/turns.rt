@@ -168,6 +168,7 @@ impl Manager {
     {
         due_events_stay();
         let caller = pass.caller();
+        self.permit.take(rt, caller);
         let mut held = self.turn.enter(rt, pass);
         let went = tell(held.state(), alloc, caller, wish);
         (self.turn.leave(held), went)
@@ -195,7 +196,10 @@ impl Manager {
                 Ok(reply) => return (after, Ok(reply)),
                 Err(NoStep::HistoryFull) => return (after, Err(Refusal::HistoryFull)),
                 Err(NoStep::Memory) => return (after, Err(Refusal::Memory)),
-                Err(NoStep::Busy(_)) => idle = after,
+                Err(NoStep::Busy(_)) => {
+                    self.permit.pass_on(after.caller());
+                    idle = after;
+                }
             }
         }
         unreachable!()
@@ -216,6 +220,7 @@ impl Manager {
         ensures told { RecordsOutcome pass result.0 (event.End action (finish_of ending)) result.1 }
     {
         let caller = pass.caller();
+        self.permit.take(rt, caller);
         let mut held = self.turn.enter(rt, pass);
         let outcome = finish(held.state(), caller, action, ending);
         (self.turn.leave(held), outcome)
@@ -238,6 +243,7 @@ impl Manager {
             IfNone result.1 (outcome_of world.acts action ≡ None) }
     {
         let caller = pass.caller();
+        self.permit.take(rt, caller);
         let mut held = self.turn.enter(rt, pass);
         let outcome = outcome_at(held.state(), caller, action);
         (self.turn.leave(held), outcome)
@@ -261,7 +267,10 @@ impl Manager {
             let (after, outcome) = self.await_once(rt, idle, action);
             match outcome {
                 Some(outcome) => return (after, outcome),
-                None => idle = after,
+                None => {
+                    self.permit.pass_on(after.caller());
+                    idle = after;
+                }
             }
         }
         unreachable!()

@@ -298,6 +298,7 @@ impl Manager {
         ensures fits { FitsAction kind (finish_of result.0) }
         ensures eager { kind ≡ ActKind.Start → result.1 ≡ work.eager }
     {
+        self.permit.give_back(idle.caller());
         match kind {
             ActKind::Resolve => {
                 let ending = self.do_resolve(rt, alloc, gates, idle, &work);

@@ -1,7 +1,7 @@
 use Rattle.cm_answers.specs.Questions.{asked_by}
 use Rattle.cm_manager.specs.Questions.{AnswersTo}
 use Rattle.cm_manager.proofs.calling.Calling.{performs_on, performs_missed, question_called}
-use Rattle.cm_manager.proofs.manager.Manager.call.Goals as goal
+use Rattle.cm_manager.proofs.manager.Manager.find_and_answer.Goals as goal
 
 pub returns-in-Ok : goal.returns-in-Ok
 returns-in-Ok g c = record {
