@@ -3,7 +3,6 @@ use denote.Param.Send as send
 use denote.Param.Send.{IsSend}
 use denote.Struct.Declared as struct
 use Rattle.std.proofs.Crossing.{Box-send, Vec-send}
-use Rattle.std.proofs.MapsCrossing.{BTreeMap-send}
 use Rattle.cm_world.proofs.Crossing.{walked_field_send}
 use Rattle.cm_cache.specs.contracts.answer.CachedAnswer
 use Rattle.cm_cache.specs.contracts.cache.Cache
@@ -12,7 +11,21 @@ use Rattle.cm_cache.specs.contracts.keeper.Keeper
 use Rattle.cm_cache.specs.contracts.keeper.Keeper.TheInside as KeeperInside
 use Rattle.cm_cache.specs.contracts.keeper.KeeperParts
 use Rattle.cm_names.proofs.path.CapPath.TheSendSync as cap_path
+use Rattle.cm_names.specs.contracts.path.CapPath
+use Rattle.cm_names.specs.contracts.path.CapPathOrd.TheImpl as path_order
+use Rattle.cm_names.specs.contracts.path.CapPathPartialEq.TheImpl as path_equality
+use Rattle.cm_names.specs.contracts.path.CapPathPartialOrd.TheImpl as path_partial_order
+use Rattle.std.below.std_heap.proofs.GlobalAllocator.TheSendSync as heap
 use Rattle.std.proofs.alloc.Global.TheSendSync as global
+use Rattle.std.proofs.collections.BTreeMap.TheSendSync as map
+use Rattle.std.specs.contracts.alloc.Global
+use Rattle.std.specs.contracts.collections.BTreeMap
+use Rattle.std.specs.contracts.impls.GlobalAllocator.TheImpl as heap_impl
+use Rattle.std.specs.contracts.prelude.U64Ord.TheImpl as number_order
+use Rattle.std.specs.contracts.prelude.U64PartialEq.TheImpl as number_equality
+use Rattle.std.specs.contracts.prelude.U64PartialOrd.TheImpl as number_partial_order
+use denote.Builtin
+use denote.RattleType.{RattleType}
 
 pub cached_answer_field_send : IsSend (CachedAnswer.the_field).row
 cached_answer_field_send = send.struct_send (struct.shape CachedAnswer.the_type) (
@@ -24,17 +37,26 @@ pub cached_answer_send : IsSend CachedAnswer.the_row
 cached_answer_send = send.recorded_send (CachedAnswer.the_field).row _ _ (CachedAnswer.the_type).to_one
     cached_answer_field_send
 
+-- what an instance's paths lead to
+abbrev paths : RattleType
+paths = BTreeMap.the_row CapPath.the_row Builtin.usize Global.the_row path_order.ghosts path_equality.ghosts
+    path_partial_order.ghosts heap_impl.ghosts
+
+paths_send : IsSend paths
+paths_send = map.the_send CapPath.the_row Builtin.usize Global.the_row path_order.ghosts path_equality.ghosts
+    path_partial_order.ghosts heap_impl.ghosts cap_path.the_send (send.plain_send _ _ _ _ _) global.the_send heap.the_frees
+
+places_send : IsSend (BTreeMap.the_row Builtin.u64 paths Global.the_row number_order.ghosts number_equality.ghosts number_partial_order.ghosts heap_impl.ghosts)
+places_send = map.the_send Builtin.u64 paths Global.the_row number_order.ghosts number_equality.ghosts
+    number_partial_order.ghosts heap_impl.ghosts (send.plain_send _ _ _ _ _) paths_send global.the_send heap.the_frees
+
 pub cache_send : IsSend Cache.the_row
 cache_send = send.view_send CacheInside.the_row _ _ _ _ (send.recorded_send (CacheInside.the_field).row _ _
     (CacheInside.the_type).to_one (send.struct_send (struct.shape CacheInside.the_type) (
       global.the_field_send,
       (
         Vec-send _ cached_answer_send,
-        (
-          BTreeMap-send _ _ _ _ _ (send.plain_send _ _ _ _
-              _) (BTreeMap-send _ _ _ _ _ cap_path.the_send (send.plain_send _ _ _ _ _)),
-          tt,
-        ),
+        (places_send, tt),
       ),
     )))
 

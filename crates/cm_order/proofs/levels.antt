@@ -6,3 +6,4 @@ pub mod Glancing
 pub mod Lists
 pub mod Clearing
 pub mod Owning
+pub mod Binding

@@ -361,7 +361,7 @@ fn put_in(
 }
 
 /// The name that an offer to a child is to: that of its collection, if it is in one, else its own.
-fn target_of(child: &ChildName) -> &Name
+pub(crate) fn target_of(child: &ChildName) -> &Name
     ensures { result.now ≡ graph.target_of child.now }
 {
     match &child.coll {

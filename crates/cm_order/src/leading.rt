@@ -13,6 +13,7 @@ ghost use Rattle.cm_order.specs.Search.{IsFreeAt, IsNextLeading};
 ghost use Rattle.cm_order.specs.Ways.{IsNodeAt};
 
 use crate::below::all_shut;
+use crate::binding::is_bound;
 use crate::clearing::{becomes_free, uses_child};
 use crate::dependents::Dependents;
 use crate::glance::{shut_kids, take_level};
@@ -98,6 +99,9 @@ pub(crate) fn leads_up<V: View>(
     }
     if is_released(alloc, view, levels, parent, child)? {
         return Ok(true);
+    }
+    if is_bound(view, levels, parent, child) {
+        return Ok(false);
     }
     leads_at(alloc, view, kept, parent, child)
 }

@@ -13,6 +13,7 @@
 //! | `leading` | the same, by what is kept of the level where that says it |
 //! | `search` | an instance that may stop, below another |
 //! | `dependents` | what depends on each child of a level |
+//! | `binding` | whether a child depends on another, by what it is offered and given |
 //! | `clearing` | how what is known of a level changes as its nodes are shut |
 //! | `glance` | a node of a level that nothing binds, by tests that cost little |
 //! | `stand` | a level on a way down, and what is known of it |
@@ -28,6 +29,7 @@
 
 pub(crate) mod above;
 pub(crate) mod below;
+pub(crate) mod binding;
 pub mod choosing;
 pub(crate) mod clearing;
 pub(crate) mod dependents;

@@ -6,6 +6,10 @@ use Rattle.std.proofs.Crossing.{Vec-send}
 use Rattle.cm_names.proofs.Crossing.{moniker_send}
 use Rattle.cm_names.proofs.child.ChildName.TheSendSync as child_name
 use Rattle.cm_names.proofs.list.List.TheSendSync as list
+use Rattle.cm_names.specs.contracts.child.ChildName
+use Rattle.cm_names.specs.contracts.child.ChildNameOrd.TheImpl as name_order
+use Rattle.cm_names.specs.contracts.child.ChildNamePartialEq.TheImpl as name_equality
+use Rattle.cm_names.specs.contracts.child.ChildNamePartialOrd.TheImpl as name_partial_order
 use Rattle.cm_names.specs.contracts.moniker.Moniker
 use Rattle.cm_table.proofs.marks.MarksAbove.TheSendSync as marks_above
 use Rattle.cm_table.proofs.ordered.OrderedRow.TheSendSync as ordered_row
@@ -21,6 +25,9 @@ use Rattle.std.below.std_heap.proofs.GlobalAllocator.TheSendSync as heap
 use Rattle.std.proofs.alloc.Global.TheSendSync as global
 use Rattle.std.proofs.collections.BTreeSet.TheSendSync as set
 use Rattle.std.proofs.option.Option.TheSendSync as option
+use Rattle.std.specs.contracts.alloc.Global
+use Rattle.std.specs.contracts.collections.BTreeSet
+use Rattle.std.specs.contracts.impls.GlobalAllocator.TheImpl as heap_impl
 
 pub slot_field_send : IsSend (Slot.the_field).row
 slot_field_send = send.struct_send (struct.shape Slot.the_type) (
@@ -44,6 +51,10 @@ pub row_block_send : IsSend RowBlock.the_row
 row_block_send = send.recorded_send (RowBlock.the_field).row _ _ (RowBlock.the_type).to_one
     row_block_field_send
 
+wanted_send : IsSend (BTreeSet.the_row ChildName.the_row Global.the_row name_order.ghosts name_equality.ghosts name_partial_order.ghosts heap_impl.ghosts)
+wanted_send = set.the_send ChildName.the_row Global.the_row name_order.ghosts name_equality.ghosts
+    name_partial_order.ghosts heap_impl.ghosts child_name.the_send global.the_send heap.the_frees
+
 pub table_send : IsSend Table.the_row
 table_send = send.view_send TableInside.the_row _ _ _ _ (send.recorded_send (TableInside.the_field).row _ _
     (TableInside.the_type).to_one (send.struct_send (struct.shape TableInside.the_type) (
@@ -60,8 +71,7 @@ table_send = send.view_send TableInside.the_row _ _ _ _ (send.recorded_send (Tab
               (
                 send.plain_send _ _ _ _ _,
                 (
-                  set.the_send _ _ _ _
-                      _ _ (child_name.the_send) global.the_send heap.the_frees,
+                  wanted_send,
                   tt,
                 ),
               ),

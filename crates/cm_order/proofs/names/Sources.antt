@@ -130,7 +130,7 @@ module _ (rows : List Row) (next : ℕ) (sound : IsSound rows next) (p : ℕ) wh
   pub own_all : (d : Decl) → decl_of rows p ≡ Some d → level_sources rows p p ≡ own_sources d
   own_all d found = rw (found, level_sources) (rw ((unsigned_Decides p p).1 refl) refl)
 
-  kid_all : (d : Decl) → decl_of rows p ≡ Some d → (w : ℕ) (kid : IsKid rows p w) → level_sources rows p w ≡ row_sources d kid.row
+  pub kid_all : (d : Decl) → decl_of rows p ≡ Some d → (w : ℕ) (kid : IsKid rows p w) → level_sources rows p w ≡ row_sources d kid.row
   kid_all d found w kid =
       rw (found, level_sources) (rw (kid_not_own rows next sound.orderly p w kid)
       (ap (λ o. elim o as (λ _. List Origin) [ None ↦ [] | Some r ↦ row_sources d r ]) kid.lives))

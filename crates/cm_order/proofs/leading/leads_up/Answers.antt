@@ -1,6 +1,7 @@
 use Rattle.std.proofs.Common.{refl, sym, ◌∙◌, inr}
 use Rattle.cm_order.proofs.levels.Gathering.{kid_shut}
 use Rattle.cm_order.proofs.levels.Owning.{kid_gone}
+use Rattle.cm_order.proofs.searches.Choosing.{never_so}
 use Rattle.cm_order.proofs.leading.leads_up.Goals as goal
 
 pub returns-then-branch-clause-leads : goal.returns-then-branch-clause-leads
@@ -17,3 +18,6 @@ returns-then-branch-2-clause-leads g c = (
 
 pub leads_at-requires-clause-node : goal.leads_at-requires-clause-node
 leads_at-requires-clause-node g c = inr c.requires.kid
+
+pub returns-then-is_bound-clause-leads : goal.returns-then-is_bound-clause-leads
+returns-then-is_bound-clause-leads g c = never_so (c.is_bound.ensures c.if-is_bound.true)
