@@ -24,7 +24,7 @@ FOLDER = re.compile(r"(?<![\w.])/(?:ho" r"me|t" r"mp|Us" r"ers|o" r"pt)/")
 MERGE = re.compile(r"(?:<{7}|>{7}|\|{7}) |={7}$")
 WIDE = re.compile(
     r"crates/[^/]+/(?:proofs/|must-fail/|stdin$|stdout$)|tools/tests/journals/|bench/turns/.*\.txt$"
-    r"|docs/component_manager\.1$|crates\.txt$|crates/\w+_tests/src/"
+    r"|bench/edits/|docs/component_manager\.1$|crates\.txt$|crates/\w+_tests/src/"
 )
 COMMAND = re.compile(r"\d+ ")
 

@@ -64,6 +64,10 @@ def files():
 def old_words(name):
     """Where a file says a word that was given up."""
     text = (TOP / name).read_text(encoding="utf-8")
+    # Most files have none, and are passed over by this quick look.
+    low = text.lower()
+    if not any(word in low for word in WORDS) and not any(re.search(phrase, low) for phrase in PHRASES):
+        return
     if name.endswith(".md"):
         text = re.sub(r"^ *```.*?^ *```$", blank, text, flags=re.M | re.S)
     text = ENGLISH.sub(blank, QUOTED.sub(blank, text))

@@ -91,6 +91,8 @@ def kind_of(path):
     if parts[0] == "crates":
         is_test = parts[1].endswith(("_tests", "_player")) or parts[-1] == "tests.rt"
         return "tests" if is_test else BELOW.get(parts[2])
+    if parts[:2] == ["bench", "edits"]:
+        return "wrong bodies"
     if parts[0] == "docs" or path.endswith(".md"):
         return None if path == "CHANGELOG.md" else "documents"
     return "tools" if parts[0] in ("tools", "bench", ".ci", "component_manager", "examples") else None

@@ -17,7 +17,8 @@ import house
 
 TOP = pathlib.Path(__file__).resolve().parent.parent
 # The modules that the prover makes of a function, a type or a loop.
-MADE = {"Goals", "Given", "TheVariants", "TheConstants", "TheInside", "TheOwn", "Inside"}
+MADE = {"Goals", "Given", "TheVariants", "TheConstants", "TheInside", "TheOwn", "Inside", "TheSendSync",
+        "TheLaws", "TheKnot", "TheImpl"}
 
 
 def names_of(path):
@@ -51,7 +52,7 @@ class Places:
         words = self.words[crate]
         name = name.removesuffix("'")
         pairs = (name[:n] in words and name[n:] in words for n in range(1, len(name)))
-        return name in words or name in MADE or name in ("declared", "laws") or any(pairs)
+        return name in words or name in MADE or name in ("declared", "contracts", "laws") or any(pairs)
 
     def lost(self, parts, names):
         """The names of an import that lead nowhere. What a goal is called isn't looked at."""

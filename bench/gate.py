@@ -163,11 +163,16 @@ def copy_of(room, wanted):
         return [name for name in names if name in ("out", ".git")]
 
     shutil.copytree(TOP, folder, ignore=unwanted)
+    write_list(folder, wanted)
+    return folder
+
+
+def write_list(folder, wanted):
+    """Writes the crates.txt of a copy that has the wanted crates alone."""
     with open(f"{TOP}/crates.txt", encoding="utf-8") as file:
         lines = [line for line in file if line.partition(":")[0].split()[:1] in [[it] for it in wanted]]
     with open(f"{folder}/crates.txt", "w", encoding="utf-8") as file:
         file.writelines(lines)
-    return folder
 
 
 def costs_of(processes):
