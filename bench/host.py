@@ -37,8 +37,9 @@ import os, socket, sys, threading, time
 def show(what, times):
     times.sort()
     n = len(times)
-    middle, most = 1e6 * times[n // 2], 1e6 * times[n * 99 // 100]
-    print(f"{what}: median {middle:.0f} us, 99 of 100 within {most:.0f} us", flush=True)
+    tenth, middle, most = (1e6 * times[n * part // 100] for part in (10, 50, 99))
+    print(f"{what}: a tenth within {tenth:.0f} us, half within {middle:.0f}, 99 of 100 within {most:.0f}",
+          flush=True)
 def connects(path, count):
     times = []
     for _ in range(count):

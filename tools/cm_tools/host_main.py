@@ -40,14 +40,16 @@ def _run(words: list[str]) -> int:
     front.check_tools()
     if options.builtin:
         raise Unusable(f"{options.builtin[0]}: a served realm has no builtins, so none can be given")
-    program, repo, run = front.find_program(), Path(options.repo).resolve(), Path(options.run).resolve()
+    repo, run = Path(options.repo).resolve(), Path(options.run).resolve()
     sources = Sources([Path(one) for one in options.include], features(options.without))
     front.check_root(repo, options.root)
+    front.check_sandbox()
     front.make_run(run)
+    # It may have to be made, which takes minutes: what can't be used is told before.
+    program = front.find_program()
     lock = front.take_lock(Places(run).lock)
     try:
         manifests = front.merged_manifests(repo, sources, Places(run).manifests)
-        front.check_sandbox()
         settings = Settings(program, str(repo), str(manifests), options.root, str(run), options.coarse_rights,
                             options.quiet,
                             cgroup=options.cgroup if options.cgroup is not None else front.own_cgroup(),
@@ -192,8 +194,8 @@ def _new(words: list[str]) -> int:
     repo = Path(options.repo)
     try:
         lines = making.make(repo, options.name, options.command, options.uses, options.provides)
-    except (OSError, Unfit) as fault:
-        raise Unusable(str(getattr(fault, "strerror", None) or fault)) from None
+    except Unfit as fault:
+        raise Unusable(str(fault)) from None
     for line in lines:
         print(line)
     print(f"start it: tools/host {repo} {making.url_of('root')}, and in its console: start {options.name}")

@@ -334,12 +334,15 @@ class Written(InFolder):
         self.assertEqual((self.folder / EVENTS).read_text(), "")
         log.note("opened", connection=3)
         log.later("closed", connection=3)
-        self.assertEqual(len(waits), 2)
-        for flush in waits:
-            flush()
+        # It is looked after them once, however many come meanwhile, and again behind that.
+        self.assertEqual(len(waits), 1)
+        waits.pop()()
+        log.later("closed", connection=4)
+        self.assertEqual(len(waits), 1)
+        waits.pop()()
         events = [json.loads(line) for line in (self.folder / EVENTS).read_text().splitlines()]
         self.assertEqual([(one["event"], one["connection"]) for one in events],
-                         [("closed", 1), ("closed", 2), ("opened", 3), ("closed", 3)])
+                         [("closed", 1), ("closed", 2), ("opened", 3), ("closed", 3), ("closed", 4)])
 
     def test_gone(self) -> None:
         """host: of what instances printed that have gone the oldest goes, and that of no other"""
@@ -911,9 +914,46 @@ class Small(InFolder):
         self.assertEqual(json.loads(root)["offer"],
                          [{"protocol": "me.P", "from": "#gives", "to": ["#takes"]}])
         self.put("local/root/meta/root.cm", "{}")
-        for name in "more", "root", "A":
-            with self.assertRaises(Unusable):
-                making.make(self.folder, name, ["cat"], [], [])
+        with self.assertRaises(Unusable):
+            making.make(self.folder, "more", ["cat"], [], [])
+
+    def test_new_refused(self) -> None:
+        """host: words from which no package can be made are refused, and nothing of it stays"""
+        making.make(self.folder, "gives", ["cat"], ["me.Q"], ["me.P"])
+        rows: list[tuple[str, list[str], list[str], list[str], str]] = [
+            ("root", ["cat"], [], [], "root can't be the name"),
+            ("A", ["cat"], [], [], "A can't be the name"),
+            ("../x", ["cat"], [], [], "can't be the name"), ("\udcff", ["cat"], [], [], "can't be the name"),
+            ("gives", ["cat"], [], [], "is there already"),
+            ("x", ["no/such"], [], [], "no/such is no program"),
+            ("x", ["cat", "\udcff"], [], [], "is no text of UTF-8"),
+            ("x", ["cat"], ["a b"], [], "a b can't be the name of a protocol"),
+            ("x", ["cat"], [], [""], " can't be the name of a protocol"),
+            ("x", ["cat"], ["a"], ["a"], "a is said twice"),
+            ("x", ["cat"], [], ["me.P"], "me.P is provided by gives already"),
+            ("x", ["cat"], ["me.P"], ["me.Q"], "x and gives would depend on each other"),
+            ("x", [str(self.folder / "y")], [], [], "the interpreter of bin/x, /no/such"),
+        ]
+        self.put("y", "#!/no/such\n", 0o755)
+        before = (self.folder / "local/root/meta/root.cm").read_text()
+        for name, command, uses, provides, why in rows:
+            with self.subTest(why), self.assertRaisesRegex((Unusable, programs.Unfit), why):
+                making.make(self.folder, name, command, uses, provides)
+        self.assertEqual(sorted(os.listdir(self.folder / "local")), ["gives", "root"])
+        self.assertEqual((self.folder / "local/root/meta/root.cm").read_text(), before)
+        self.put("local/gives/meta/gives.cm", "{")
+        with self.assertRaisesRegex(Unusable, "gives.cm can't be read"):
+            making.make(self.folder, "x", ["cat"], [], [])
+
+    def test_new_links(self) -> None:
+        """host: a package has a copy of a program that no sandbox has, and a link to another is followed"""
+        self.put("bin/tool", "#!/bin/sh\n", 0o755)
+        (self.folder / "link").symlink_to("/usr/bin/cat")
+        for name, place in ("copied", os.path.relpath(self.folder / "bin/tool")), \
+                           ("linked", str(self.folder / "link")):
+            making.make(self.folder, name, [place], [], [])
+        self.assertEqual((self.folder / "local/copied/bin/copied").read_text(), "#!/bin/sh\n")
+        self.assertIn("exec /usr/bin/cat ", (self.folder / "local/linked/bin/linked").read_text())
 
 
 def judge(steps: list[tuple[int, int, int, int]], machine: int, number: int) -> int:

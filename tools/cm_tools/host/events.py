@@ -61,6 +61,7 @@ class Log:
         self.is_full, self.count_gone = False, 0
         # Events that are written with the next one; and what has that done where none comes.
         self.behind: list[dict[str, Any]] = []
+        self.is_due = False
         self.call_later: Callable[[float, Callable[[], None]], object] = lambda _, flush: flush()
         self.rooms = {word: Room(50) for word in ("opened", "refused", "broken")}
         self._open()
@@ -82,7 +83,8 @@ class Log:
     def later(self, word: str, **fields: Any) -> None:
         """Writes an event that nobody waits for, together with the next one, or a moment later."""
         self.behind.append({"at": round(time.time(), 6), "event": word, **fields})
-        if len(self.behind) == 1:
+        if not self.is_due:
+            self.is_due = True
             self.call_later(A_MOMENT, self.flush)
 
     def gone(self, known: Iterable[str]) -> None:
@@ -95,7 +97,8 @@ class Log:
                     place.unlink()
 
     def flush(self) -> None:
-        """Writes the events that wait."""
+        """Writes the events that wait. What others had written since needs no further moment for each."""
+        self.is_due = False
         if self.behind:
             self._write()
 

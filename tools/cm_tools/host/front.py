@@ -42,6 +42,8 @@ RUNNER = ("-I", "-B", "-c", f"import sys; sys.path.insert(0, {str(TOOLS)!r}); "
           "from cm_tools.host.runner import main; sys.exit(main())")
 NEEDED = {"bwrap": "bubblewrap", "unshare": "util-linux", "setpriv": "util-linux", "prlimit": "util-linux"}
 LONGEST_SOCKET = 107
+# How long a first sandbox may take, in seconds.
+TO_TRY = 120
 # A runner that ends so soon, in seconds, so many times isn't begun again.
 TOO_SOON, TIMES = 2.0, 5
 # How long an end in order may take, in seconds.
@@ -73,7 +75,11 @@ def check_sandbox() -> None:
     words = [*NAMESPACES, *BARE, "bwrap", "--unshare-all", "--unshare-user", "--disable-userns",
              "--ro-bind", "/usr", "/usr", "--symlink", "usr/lib", "/lib", "--symlink", "usr/lib64", "/lib64",
              "--proc", "/proc", "--dev", "/dev", "/usr/bin/true"]
-    tried = subprocess.run(words, capture_output=True, text=True, timeout=120)
+    try:
+        tried = subprocess.run(words, capture_output=True, text=True, timeout=TO_TRY,
+                               stdin=subprocess.DEVNULL)
+    except subprocess.TimeoutExpired:
+        raise Unusable(f"this system made no sandbox for this user within {TO_TRY} s") from None
     if tried.returncode != 0:
         why = (tried.stderr.strip().splitlines() or ["no reason was given"])[-1]
         raise Unusable(f"this system makes no sandbox for this user: {why}")

@@ -3,6 +3,7 @@
 from __future__ import annotations
 
 import json
+import os
 import re
 import shlex
 import shutil
@@ -11,9 +12,10 @@ from typing import Any
 
 from cm_tools.console import Unusable
 from cm_tools.host import programs
-from cm_tools.relaxed import read_relaxed
+from cm_tools.relaxed import SpellingFault, read_relaxed
 
 NAME = re.compile(r"[a-z0-9][a-z0-9_.-]{0,99}\Z")
+PROTOCOL = re.compile(r"[A-Za-z0-9_][A-Za-z0-9_.-]{0,254}\Z")
 WRITTEN = "// Written by `tools/host new`, which writes it anew with each further package.\n"
 HOST = "local"
 
@@ -24,16 +26,50 @@ def url_of(name: str) -> str:
 
 
 def make(repo: Path, name: str, command: list[str], uses: list[str], provides: list[str]) -> list[str]:
-    """Writes a package for a command, and the root of all packages here. What is told of it."""
-    if not NAME.match(name) or name == "root":
-        raise Unusable(f"{name} can't be the name of a component")
-    root = repo / HOST / "root/meta/root.cm"
-    if root.exists() and not root.read_text("utf-8").startswith(WRITTEN):
+    """Writes a package for a command, and the root of all packages here. What is told of it. Where it can't
+    be written nothing of it stays."""
+    check_words(name, command, uses, provides)
+    root, package = repo / HOST / "root/meta/root.cm", repo / HOST / name
+    if root.exists() and not root.read_text("utf-8", "replace").startswith(WRITTEN):
         raise Unusable(f"{root} wasn't written by this tool")
-    package = repo / HOST / name
-    (package / "meta").mkdir(parents=True, exist_ok=True)
-    (package / "bin").mkdir(exist_ok=True)
-    words = _binary(package, name, command)
+    if package.exists():
+        raise Unusable(f"{package} is there already: remove it, or take another name")
+    program = _program(command[0])
+    try:
+        _write(package, name, program, command[1:], uses, provides)
+        programs.read(programs.Repo.of(repo), url_of(name))
+        return told(name, uses, provides, write_root(repo, name))
+    except BaseException:
+        shutil.rmtree(package, ignore_errors=True)
+        raise
+
+
+def check_words(name: str, command: list[str], uses: list[str], provides: list[str]) -> None:
+    """Refuses words from which no manifest can be made."""
+    if not NAME.match(name) or name == "root":
+        raise Unusable(f"{_shown(name)} can't be the name of a component: that is small letters, digits and "
+                       "_ . -, at most 100, and not root")
+    for one in (*uses, *provides):
+        if not PROTOCOL.match(one):
+            raise Unusable(f"{_shown(one)} can't be the name of a protocol: that is letters, digits and "
+                           "_ . -, at most 255")
+        if (*uses, *provides).count(one) > 1:
+            raise Unusable(f"{one} is said twice: a protocol is used or provided once, and not both")
+    for word in command:
+        if _shown(word) != word:
+            raise Unusable(f"{_shown(word)} is no text of UTF-8, so no manifest can have it")
+
+
+def _shown(word: str) -> str:
+    """A word as it can be printed."""
+    return word.encode("utf-8", "replace").decode()
+
+
+def _write(package: Path, name: str, program: Path, words: list[str], uses: list[str],
+           provides: list[str]) -> None:
+    (package / "meta").mkdir(parents=True)
+    (package / "bin").mkdir()
+    _put(package / "bin" / name, program)
     manifest: dict[str, Any] = {"program": {"runner": "elf", "binary": f"bin/{name}", "args": words,
                                             "lifecycle": {"stop_event": "notify"}}}
     if uses:
@@ -42,9 +78,6 @@ def make(repo: Path, name: str, command: list[str], uses: list[str], provides: l
         manifest["capabilities"] = [{"protocol": one} for one in provides]
         manifest["expose"] = [{"protocol": one, "from": "self"} for one in provides]
     (package / "meta" / f"{name}.cm").write_text(json.dumps(manifest, indent=4) + "\n", "utf-8")
-    programs.read(programs.Repo.of(repo), url_of(name))
-    sources = write_root(repo)
-    return told(name, uses, provides, sources)
 
 
 def told(name: str, uses: list[str], provides: list[str], sources: dict[str, str]) -> list[str]:
@@ -60,46 +93,80 @@ def told(name: str, uses: list[str], provides: list[str], sources: dict[str, str
     return lines
 
 
-def _binary(package: Path, name: str, command: list[str]) -> list[str]:
-    """Puts the program into the package: a copy, or a script that starts what each sandbox has. Its words."""
-    if not command:
-        raise Unusable("a command is missing behind --")
-    place = package / "bin" / name
-    found = shutil.which(command[0])
+def _program(word: str) -> Path:
+    """The program that a command names."""
+    found = shutil.which(word)
     if found is None:
-        raise Unusable(f"{command[0]} is no program that can be run")
-    if found.split("/")[1] in ("usr", "bin", "sbin"):
-        place.write_text(f"#!/bin/sh\nexec {shlex.quote(found)} \"$@\"\n", "utf-8")
-        place.chmod(0o755)
+        raise Unusable(f"{word} is no program that can be run")
+    place = Path(os.path.abspath(found))
+    # No sandbox has /etc/alternatives, to which some lead.
+    leads_to = Path(os.path.abspath(place.parent / place.readlink())) if place.is_symlink() else place
+    return place if _is_everywhere(place) and _is_everywhere(leads_to) else place.resolve()
+
+
+def _is_everywhere(place: Path) -> bool:
+    """Whether each sandbox has it."""
+    return place.parts[1] in ("usr", "bin", "sbin", "lib", "lib64")
+
+
+def _put(place: Path, program: Path) -> None:
+    """Puts a program into a package: a copy, or a script that starts what each sandbox has."""
+    if _is_everywhere(program):
+        place.write_text(f"#!/bin/sh\nexec {shlex.quote(str(program))} \"$@\"\n", "utf-8")
     else:
-        shutil.copy(found, place)
-    return command[1:]
+        shutil.copyfile(program, place)
+    place.chmod(0o755)
 
 
-def write_root(repo: Path) -> dict[str, str]:
-    """Writes the root of all packages: a child each, and an offer of what each uses and another provides. Who
-    provides what."""
+def write_root(repo: Path, new: str) -> dict[str, str]:
+    """Writes the root of all packages, one of which is new: a child each, and an offer of what each uses and
+    another provides. Who provides what."""
     names = sorted(place.parent.parent.name for place in (repo / HOST).glob("*/meta/*.cm")
                    if place.stem == place.parent.parent.name != "root")
-    uses: dict[str, list[str]] = {}
+    uses = {name: _protocols(repo, name, "use") for name in names}
     sources: dict[str, str] = {}
-    for name in names:
-        manifest = read_relaxed((repo / HOST / name / "meta" / f"{name}.cm").read_text("utf-8"))
-        for section, found in ("use", uses), ("expose", None):
-            node = manifest.get(section)
-            for item in node.items if node is not None else []:
-                if found is not None:
-                    found.setdefault(item.text("protocol"), []).append(name)
-                else:
-                    sources.setdefault(item.text("protocol"), name)
+    for name in sorted(names, key=lambda name: (name == new, name)):
+        for one in _protocols(repo, name, "expose"):
+            if name == new and one in sources:
+                raise Unusable(f"{one} is provided by {sources[one]} already")
+            sources.setdefault(one, name)
+    check_circle(new, uses, sources)
+    targets = {one: [f"#{name}" for name in names if one in uses[name] and name != source]
+               for one, source in sources.items()}
     root = {"children": [{"name": name, "url": url_of(name)} for name in names],
-            "offer": [{"protocol": one, "from": f"#{source}",
-                       "to": [f"#{name}" for name in uses.get(one, []) if name != source]}
-                      for one, source in sorted(sources.items()) if set(uses.get(one, [])) - {source}]}
+            "offer": [{"protocol": one, "from": f"#{sources[one]}", "to": found}
+                      for one, found in sorted(targets.items()) if found]}
     place = repo / HOST / "root/meta/root.cm"
     place.parent.mkdir(parents=True, exist_ok=True)
     place.write_text(WRITTEN + json.dumps(root, indent=4) + "\n", "utf-8")
     return sources
+
+
+def _protocols(repo: Path, name: str, section: str) -> list[str]:
+    """The protocols that a manifest uses or exposes."""
+    place = repo / HOST / name / "meta" / f"{name}.cm"
+    try:
+        node = read_relaxed(place.read_text("utf-8")).get(section)
+    except (SpellingFault, ValueError) as fault:
+        raise Unusable(f"{place} can't be read: {fault}") from None
+    found = [item.text("protocol") for item in node.items] if node is not None else []
+    return [one for one in found if one]
+
+
+def check_circle(new: str, uses: dict[str, list[str]], sources: dict[str, str]) -> None:
+    """Refuses a new component with which some depend on each other in a circle: no manager takes such a
+    root."""
+    seen, more = {new}, [new]
+    while more:
+        name = more.pop()
+        for one in uses[name]:
+            source = sources.get(one, name)
+            if source == new != name:
+                raise Unusable(f"{new} and {name} would depend on each other, in a circle that no root may "
+                               f"have: {name} uses {one}")
+            if source not in seen:
+                seen.add(source)
+                more.append(source)
 
 
 def unit(tool: Path, python: str, program: str, words: list[str]) -> str:

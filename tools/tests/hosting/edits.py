@@ -68,7 +68,7 @@ EDITS: dict[str, tuple[list[tuple[str, str, str]], str]] = {
 def changed(base: Path, name: str, edits: list[tuple[str, str, str]] | None = None) -> Path:
     """A copy of the tools with one of these changes, or with others."""
     tools = base / "tools"
-    shutil.copytree(TOOLS, tools, ignore=shutil.ignore_patterns("tests", "__pycache__"))
+    shutil.copytree(TOOLS, tools, ignore=shutil.ignore_patterns("tests"))
     for file, old, new in edits if edits is not None else EDITS[name][0]:
         place = tools / "cm_tools/host" / file
         text = place.read_text()

@@ -5,7 +5,7 @@ from __future__ import annotations
 import re
 import unittest
 
-from tests.hosting.trial import Host, folder, lay
+from tests.hosting.trial import Host, folder, lay, need_layers
 
 
 class Demo(unittest.TestCase):
@@ -15,6 +15,7 @@ class Demo(unittest.TestCase):
         self.base = folder()
         self.host = Host(lay(self.base), run=self.base / "r")
         self.addCleanup(self.host.remove)
+        need_layers(self.host.text())
 
     def order(self, *lines: str) -> None:
         """Lines of the screen stand in this order."""

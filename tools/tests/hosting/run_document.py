@@ -8,8 +8,9 @@ import shutil
 import subprocess
 import threading
 import unittest
+from pathlib import Path
 
-from tests.hosting.trial import PATIENCE, TOOLS, folder, kill_all, still_there
+from tests.hosting.trial import PATIENCE, TOOLS, folder, kill_all, need_layers, still_there
 
 DOCUMENT = TOOLS.parent / "docs/HOST.md"
 
@@ -38,6 +39,8 @@ class Document(unittest.TestCase):
 
     def test_document(self) -> None:
         """each command of docs/HOST.md does what the page says"""
+        if shutil.which("socat") is None:
+            self.skipTest("socat isn't here")
         base = folder()
         self.base = str(base)
         self.addCleanup(shutil.rmtree, base, True)
@@ -49,10 +52,16 @@ class Document(unittest.TestCase):
         assert shell.stdin is not None
         for command, wanted in commands(DOCUMENT.read_text("utf-8")):
             lines = self.printed(shell, command)
+            need_layers(self.screen())
             self.assertTrue(fits(wanted, lines), f"{command}\nis said to print {wanted}\nand prints {lines}")
         shell.stdin.close()
         self.assertEqual(shell.wait(PATIENCE), 0)
         self.assertEqual(still_there(str(base)), [])
+
+    def screen(self) -> str:
+        """What the host shows that was started last."""
+        place = Path(self.base) / "screen.txt"
+        return place.read_text(errors="replace") if place.exists() else ""
 
     def printed(self, shell: subprocess.Popen[str], command: str) -> list[str]:
         """The lines that a command prints. One that hangs is ended, and its shell with all that it began."""

@@ -9,6 +9,7 @@ import subprocess
 import threading
 import time
 import unittest
+from concurrent.futures import ThreadPoolExecutor
 from pathlib import Path
 
 from cm_tools.meeting import connected
@@ -27,9 +28,10 @@ ROWS: list[tuple[str, str, bool | None]] = [
     ("declined\n", "declined", True),
     ("drips", "started", True),
     ("running\n", "started", True),
-    ("says nothing", "gate-failed", False),
 ]
-LATE = [("answers behind the failure", "gate-failed", False)]
+# These take the whole time that a runner has.
+SILENT: list[list[tuple[str, str, bool | None]]] = [
+    [("says nothing", "gate-failed", False)], [("answers behind the failure", "gate-failed", False)]]
 
 
 class Player:
@@ -172,12 +174,10 @@ class Gate(unittest.TestCase):
         self.assertEqual(served.end(), 0)
 
     def test_faults(self) -> None:
-        """a runner that hangs up, says noise, drips, says more or nothing: the start says what came of it"""
-        self.rows(ROWS)
-
-    def test_late(self) -> None:
-        """a runner that answers when its time is over reads no `taken`"""
-        self.rows(LATE)
+        """a runner that hangs up, says noise, drips, says more or nothing, or is late: the start says it"""
+        with ThreadPoolExecutor() as pool:
+            for done in [pool.submit(self.rows, rows) for rows in (ROWS, *SILENT)]:
+                done.result()
 
     def test_nobody(self) -> None:
         """where nobody listens a start fails, and without the variable all is as before"""

@@ -7,7 +7,7 @@ import re
 import signal
 import unittest
 
-from tests.hosting.trial import Host, folder, lay, package, root_of
+from tests.hosting.trial import Host, folder, lay, need_layers, package, root_of
 
 
 PROVIDER = """#!/usr/bin/python3
@@ -65,6 +65,7 @@ class Kills(unittest.TestCase):
         self.base = folder()
         self.host = Host(lay(self.base), run=self.base / "r")
         self.addCleanup(self.host.remove)
+        need_layers(self.host.text())
         # The browser reads a page of the logger, which the client has crash.
         self.host.wait(r"said      browser +\| .*of the log")
         self.host.ask("start client")

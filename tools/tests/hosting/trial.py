@@ -13,6 +13,7 @@ import subprocess
 import sys
 import tempfile
 import time
+import unittest
 from pathlib import Path
 from typing import Any, Callable
 
@@ -134,9 +135,13 @@ class Host:
 
     def ask(self, *lines: str) -> list[str]:
         """The replies to commands, each with its further lines."""
-        with self.link("cm") as link:
-            link.sendall("".join(line + "\n" for line in (*lines, "quit")).encode())
-            text = link.makefile().read()
+        try:
+            with self.link("cm") as link:
+                link.sendall("".join(line + "\n" for line in (*lines, "quit")).encode())
+                text = link.makefile().read()
+        except OSError as fault:
+            why = f"no reply to {lines}: {fault}"
+            raise AssertionError(f"{why}; its screen:\n{self.text()[-3000:]}") from None
         return [one for one in re.split(r"\n(?! )", text) if one]
 
     def on(self) -> list[str]:
@@ -197,6 +202,12 @@ class Host:
         if self.process.poll() is None:
             self.kill()
         shutil.rmtree(self.base, ignore_errors=True)
+
+
+def need_layers(screen: str) -> None:
+    """Leaves a test out that needs read-only folders, where a host tells that the system lays no layers."""
+    if "no layers over folders" in screen:
+        raise unittest.SkipTest("this system lays no layers over folders")
 
 
 def cmdline(pid: int) -> list[str]:

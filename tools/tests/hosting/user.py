@@ -5,18 +5,31 @@ from __future__ import annotations
 import contextlib
 import os
 import shutil
+import signal
 import subprocess
 import sys
 import tempfile
 from pathlib import Path
 from typing import Iterator
 
-from cm_tools.host.front import find_program
+from cm_tools.console import Unusable
+from cm_tools.host.front import NEEDED, find_program
 
 # In which cgroup the other user may make groups, or why there is none.
 GROUP, NO_GROUP = "COMPONENT_HOST_CGROUP", "COMPONENT_HOST_NO_CGROUP"
 
 OTHER_USER = "64321"
+# Behind the shell: `setpriv` itself has root's rights until it has become another program.
+OTHER = ("setpriv", "--pdeathsig", "KILL", "--reuid", OTHER_USER, "--regid", OTHER_USER, "--clear-groups",
+         "--", "/bin/sh", "-c", 'exec "$0" "$@"')
+# What the programs of the example and of the tests are written for.
+INTERPRETER = "/usr/bin/python3"
+# A folder below this one has sockets in it, whose paths may not be long.
+LONGEST_PLACE = 32
+# What the shell ends with where it can't become a program.
+CANT_RUN = (126, 127)
+# How long the other user has for a word that does nothing, and for all that a script does, in seconds.
+A_MOMENT, FOR_ALL = 60, 7200
 
 
 def reason_to_skip() -> str:
@@ -25,32 +38,83 @@ def reason_to_skip() -> str:
         return "the tools need Python 3.10 or a later one"
     if not os.environ.get("COMPONENT_MANAGER"):
         return "COMPONENT_MANAGER names no program"
-    for tool in ("bwrap", "unshare", "setpriv"):
+    for tool in NEEDED:
         if shutil.which(tool) is None:
             return f"{tool} isn't here"
+    if not os.access(INTERPRETER, os.X_OK):
+        return f"{INTERPRETER} isn't here"
+    if os.getuid() == 0:
+        if not is_run("true"):
+            return "root can't become another user here"
+        if not python_of_other():
+            return "no Python that another user can run is 3.10 or a later one"
     return ""
 
 
-def as_another_user(script: str) -> int:
-    """Runs a script again, with the same words, as a user that isn't root. Its status."""
-    base = tempfile.mkdtemp(prefix="host-")
+def is_run(*words: str) -> bool:
+    """Whether the other user runs something with success, in a moment."""
     try:
-        os.chown(base, int(OTHER_USER), int(OTHER_USER))
-        # A tool of root's own may stand where no other user looks.
-        python = sys.executable if not sys.executable.startswith("/root/") else "/usr/bin/python3"
-        program = os.path.join(base, "component_manager")
-        shutil.copy(find_program(), program)
-        os.chmod(program, 0o755)
-        other = ["setpriv", "--reuid", OTHER_USER, "--regid", OTHER_USER, "--clear-groups"]
-        if subprocess.run([*other, "test", "-r", script]).returncode != 0:
-            script = _copied(script, os.path.join(base, "copy"))
-        words = [*other, python, script, *sys.argv[1:]]
+        return subprocess.run([*OTHER, *words], stdin=subprocess.DEVNULL, stdout=subprocess.DEVNULL,
+                              stderr=subprocess.DEVNULL, timeout=A_MOMENT).returncode == 0
+    except subprocess.TimeoutExpired:
+        return False
+
+
+def python_of_other() -> str:
+    """A Python for the other user: one of root's own may stand where nobody else looks. Nothing where there
+    is none."""
+    new_enough = "import sys; sys.exit(sys.version_info < (3, 10))"
+    found = (one for one in (sys.executable, INTERPRETER) if is_run(one, "-c", new_enough))
+    return next(found, "")
+
+
+def as_another_user(script: str) -> int:
+    """Runs a script again, with the same words, as a user that isn't root. Its status. By TERM all ends that
+    it has begun."""
+    signal.signal(signal.SIGTERM, lambda number, _: sys.exit(128 + number))
+    base = folder_of_other(find_program())
+    try:
+        script, python = _copied(script, os.path.join(base, "copy")), python_of_other()
+        # Compiled once, since hosts and tools are started many times.
+        is_run(python, "-m", "compileall", "-q", os.path.join(base, "copy/tools/cm_tools"))
         with delegated_group() as group:
             environment = {**os.environ, **group, "HOME": base, "TMPDIR": base, "PATH": "/usr/bin:/bin",
-                           "COMPONENT_MANAGER": program}
-            return subprocess.run(words, env=environment).returncode
+                           "COMPONENT_MANAGER": os.path.join(base, "component_manager")}
+            return subprocess.run([*OTHER, python, script, *sys.argv[1:]], env=environment,
+                                  stdin=subprocess.DEVNULL, timeout=FOR_ALL).returncode
+    except subprocess.TimeoutExpired:
+        print(f"the run of another user took more than {FOR_ALL} s")
+        return 1
     finally:
+        end_all(base)
         subprocess.run(["rm", "-rf", base])
+
+
+def folder_of_other(program: str) -> str:
+    """A new folder of the other user, with a copy of the program that runs in it."""
+    for place in tempfile.gettempdir(), "/tmp", "/var/tmp":
+        if len(place) > LONGEST_PLACE or not os.path.isdir(place):
+            continue
+        base = tempfile.mkdtemp(prefix="host-", dir=place)
+        copied = os.path.join(base, "component_manager")
+        shutil.copy(program, copied)
+        os.chmod(copied, 0o755)
+        os.chown(base, int(OTHER_USER), int(OTHER_USER))
+        # Without a word it refuses its words.
+        if subprocess.run([*OTHER, copied], stdin=subprocess.DEVNULL, capture_output=True,
+                          timeout=A_MOMENT).returncode not in CANT_RUN:
+            return base
+        shutil.rmtree(base)
+    raise Unusable("no folder for temporary files with a short path lets another user run a program")
+
+
+def end_all(base: str) -> None:
+    """Ends what the other user has left, as where the run was killed: all with this folder in a word."""
+    for place in Path("/proc").glob("[0-9]*"):
+        with contextlib.suppress(OSError):
+            words = (place / "cmdline").read_bytes()
+            if place.stat().st_uid == int(OTHER_USER) and base.encode() in words:
+                os.kill(int(place.name), signal.SIGKILL)
 
 
 @contextlib.contextmanager
@@ -108,7 +172,7 @@ def remove_group(group: Path) -> None:
 
 
 def _copied(script: str, copy: str) -> str:
-    """Copies what a script needs to where another user may read it. Where the script is then."""
+    """Copies what a script needs for another user, who may not read it where it is. Where it is then."""
     place = os.path.abspath(script)
     top = os.path.dirname(os.path.dirname(place))
     for name in "tools", "examples", "docs", ".ci", "bench":
