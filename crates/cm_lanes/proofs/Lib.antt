@@ -3,3 +3,4 @@ pub mod phases
 pub mod merged
 pub mod ends
 pub mod Crossing
+pub mod Captures

@@ -2,3 +2,4 @@ pub mod spoken
 pub mod links
 pub mod work
 pub mod ends
+pub mod Captures

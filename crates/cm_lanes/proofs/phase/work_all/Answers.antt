@@ -1,6 +1,9 @@
-use denote.Param.Send.{sendable}
+use denote.Exit.{no}
+use denote.Param.Send.{sendable, param_sync, arg_sync, shr_sync, shr_slice_sync}
 use Rattle.std.proofs.Crossing.{crosses}
+use Rattle.std.proofs.alloc.Global.TheSendSync as global
 use Rattle.cm_command.proofs.Crossing.{line_sync}
+use Rattle.cm_lanes.proofs.Captures.{four_sync}
 use Rattle.cm_lanes.proofs.Crossing.{said_send}
 use Rattle.cm_lanes.proofs.phase.work_all.Goals as goal
 use Rattle.cm_manager.proofs.Crossing.{manager_sync}
@@ -10,4 +13,6 @@ pub for_each_mut-requires-send-T : goal.for_each_mut-requires-send-T
 for_each_mut-requires-send-T g c = search (sendable, crosses, pass.the_send, said_send) depth 40
 
 pub for_each_mut-requires-sync-F : goal.for_each_mut-requires-sync-F
-for_each_mut-requires-sync-F g c = search (sendable, crosses, manager_sync, line_sync) depth 40
+for_each_mut-requires-sync-F g c κs fits =
+    param_sync 2 _ (arg_sync _ no _ (four_sync _ _ _ _ _ (shr_sync _ _ _ c.type_bounds.sync-R)
+    (shr_sync _ _ _ global.the_sync) (shr_sync _ _ _ manager_sync) (shr_slice_sync _ _ _ line_sync)))
