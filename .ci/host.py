@@ -111,7 +111,8 @@ def main() -> int:
     except Unusable as fault:
         print(f"skipped: a host can't run here, since {fault}")
         return 0
-    signal.signal(signal.SIGTERM, lambda *_: end_all("it was told to end"))
+    for number in signal.SIGINT, signal.SIGTERM:
+        signal.signal(number, lambda *_: end_all("it was told to end"))
     suite = unittest.TestSuite()
     for part in sys.argv[1:] or PARTS:
         if (TOP / f"tools/tests/hosting/run_{part}.py").exists():

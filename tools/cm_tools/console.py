@@ -41,13 +41,13 @@ def run_tool(name: str, main: Callable[[list[str]], int]) -> int:
     except Unusable as fault:
         _say(name, str(fault))
     except BrokenPipeError:
-        _drop_output()
+        drop_output()
         return 0
     except KeyboardInterrupt:
-        _drop_output()
+        drop_output()
         return INTERRUPTED_STATUS
     except OSError as fault:
-        _drop_output()
+        drop_output()
         _say(name, f"{fault.filename or 'the output'}: {fault.strerror or fault}")
     return UNUSABLE_STATUS
 
@@ -68,7 +68,7 @@ def _nothing_at(number: int) -> int:
     return number
 
 
-def _drop_output() -> None:
+def drop_output() -> None:
     """Lets what is left in the buffers go: it would be written again at the end, and fail again."""
     for stream in (sys.stdout, sys.stderr):
         try:

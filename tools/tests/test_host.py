@@ -34,9 +34,11 @@ from cm_tools.host.programs import Repo, Unfit
 from cm_tools.host.questions import Question
 from cm_tools.host.realm import Room
 from cm_tools.host.reports import TOP, Reports
+from cm_tools.host.sandbox import Process
+from cm_tools.host.screen import LONGEST, Screen
 from cm_tools.host.sessions import Tally, count_of
 from cm_tools.host.settings import Settings
-from cm_tools.host.starts import UNSEEN, Starts
+from cm_tools.host.starts import UNSEEN, Begun, Starts
 from cm_tools.host.storage import Storage, Used, counted
 from cm_tools.host.succession import older
 from cm_tools.host.tree import Tree, commands, created_part
@@ -589,6 +591,55 @@ class Started(InFolder):
         self.started(work)
 
 
+class Ended(unittest.TestCase):
+    """The end of a sandbox."""
+
+    def test_unbound(self) -> None:
+        """host: where bwrap has ended the first process inside does, too, though not bound to its life yet"""
+        async def ends(inside: subprocess.Popen[bytes]) -> bool:
+            begun = Begun(inside.pid, os.pidfd_open(inside.pid))
+            sandbox = Process(begun, -1)
+            sandbox.inner = os.pidfd_open(inside.pid)
+            begun.status.add_done_callback(sandbox._outer_ended)
+            begun.end(-signal.SIGKILL)
+            return await sandbox.ended(SECONDS)
+
+        inside = subprocess.Popen(["sleep", "1000000"])
+        self.addCleanup(inside.wait)
+        self.addCleanup(inside.kill)
+        self.assertTrue(watching.run(ends(inside)))
+
+
+class Shown(unittest.TestCase):
+    """Lines for a person."""
+
+    def test_full(self) -> None:
+        """host: a screen that takes nothing isn't waited for, and tells later how many lines it missed"""
+        out, into = os.pipe()
+        self.addCleanup(os.close, out)
+        with open(into, "w", encoding="utf-8") as stream:
+            screen, count = Screen(stream), 0
+            while not screen.left_out:
+                screen.show("\u00e9" * 2000)
+                count += 1
+            screen.show("missed")
+            self.assertEqual(os.read(out, 1 << 20).decode(), ("\u00e9" * LONGEST + "\n") * (count - 1))
+            screen.show("a\tb \x1b[31m")
+            self.assertEqual(os.read(out, 1 << 20).decode().splitlines(),
+                             ["host      2 lines weren't taken here; the log has them", "a?b ?[31m"])
+
+    def test_closed(self) -> None:
+        """host: a screen that is closed is written no more"""
+        out, into = os.pipe()
+        os.close(out)
+        with open(into, "w", encoding="utf-8") as stream:
+            screen = Screen(stream)
+            screen.show("nobody reads this")
+            self.assertTrue(screen.is_over)
+            screen.show("nor this")
+            os.dup2(os.open(os.devnull, os.O_WRONLY | os.O_CLOEXEC), into)
+
+
 class Watched(InFolder):
     """What the loop calls."""
 
@@ -953,6 +1004,10 @@ class Small(InFolder):
                            ("linked", str(self.folder / "link")):
             making.make(self.folder, name, [place], [], [])
         self.assertEqual((self.folder / "local/copied/bin/copied").read_text(), "#!/bin/sh\n")
+        words = ["cat", str(self.folder / "bin/tool"), "/usr/bin/env"]
+        lines = making.make(self.folder, "reads", words, [], [])
+        self.assertEqual([line.split(":")[0] for line in lines[2:]],
+                         [f"{self.folder}/bin/tool isn't in its package"])
         self.assertIn("exec /usr/bin/cat ", (self.folder / "local/linked/bin/linked").read_text())
 
 

@@ -12,6 +12,8 @@ from json.encoder import encode_basestring_ascii as quoted
 from pathlib import Path
 from typing import Any, Callable, Iterable, TextIO
 
+from cm_tools.host.screen import Screen
+
 # A file of events that has grown so far is put aside, and so many of these are kept.
 LARGEST_LOG = 32 << 20
 KEPT_LOGS = 4
@@ -56,7 +58,7 @@ class Log:
 
     def __init__(self, folder: Path, screen: TextIO = sys.stdout, quiet: bool = False) -> None:
         folder.mkdir(mode=0o700, parents=True, exist_ok=True)
-        self.folder, self.screen, self.quiet = folder, screen, quiet
+        self.folder, self.screen, self.quiet = folder, Screen(screen), quiet
         self.snapshot: Callable[[], list[dict[str, Any]]] = list
         self.is_full, self.count_gone = False, 0
         # Events that are written with the next one; and what has that done where none comes.
@@ -103,14 +105,9 @@ class Log:
             self._write()
 
     def show(self, text: str) -> None:
-        """Shows a line to the person who looks on, if any still does."""
-        if self.quiet:
-            return
-        try:
-            self.screen.write(text + "\n")
-            self.screen.flush()
-        except (OSError, ValueError):
-            self.quiet = True
+        """Shows a line to the person who looks on."""
+        if not self.quiet:
+            self.screen.show(text)
 
     def _open(self) -> None:
         how = os.O_WRONLY | os.O_APPEND | os.O_CREAT | os.O_CLOEXEC

@@ -20,6 +20,7 @@ from cm_tools.console import Unusable
 from cm_tools.host import programs
 from cm_tools.host.programs import Unfit
 from cm_tools.host.sandbox import BARE
+from cm_tools.host.screen import Screen
 from cm_tools.host.settings import Places, Settings
 from cm_tools.merging import Sources
 from cm_tools.program import chosen_program
@@ -214,7 +215,7 @@ class Front:
         """Runs until it is told to end. The status of the last runner."""
         for number in (signal.SIGINT, signal.SIGTERM, signal.SIGHUP):
             signal.signal(number, self._on_signal)
-        soon = 0
+        soon, screen = 0, Screen(sys.stdout)
         while True:
             begun = time.monotonic()
             status = self._begin()
@@ -226,7 +227,7 @@ class Front:
             if soon >= TIMES:
                 print(f"host: the runner ended {soon} times at once", file=sys.stderr)
                 return 1
-            print("host: the runner was killed, and its programs with it; another one begins", flush=True)
+            screen.show("host: the runner was killed, and its programs with it; another one begins")
 
     def _begin(self) -> int:
         places, error = Places(self.settings.run), os.dup(2)

@@ -38,7 +38,7 @@ def make(repo: Path, name: str, command: list[str], uses: list[str], provides: l
     try:
         _write(package, name, program, command[1:], uses, provides)
         programs.read(programs.Repo.of(repo), url_of(name))
-        return told(name, uses, provides, write_root(repo, name))
+        return told(name, uses, provides, write_root(repo, name)) + missing(package, command[1:])
     except BaseException:
         shutil.rmtree(package, ignore_errors=True)
         raise
@@ -93,6 +93,12 @@ def told(name: str, uses: list[str], provides: list[str], sources: dict[str, str
     return lines
 
 
+def missing(package: Path, words: list[str]) -> list[str]:
+    """A line for each word that names a file here which the program won't see."""
+    return [f"{word} isn't in its package: copy it to {package}, where the program runs, as /pkg"
+            for word in words if os.path.isfile(word) and not _is_everywhere(Path(os.path.abspath(word)))]
+
+
 def _program(word: str) -> Path:
     """The program that a command names."""
     found = shutil.which(word)
@@ -106,7 +112,7 @@ def _program(word: str) -> Path:
 
 def _is_everywhere(place: Path) -> bool:
     """Whether each sandbox has it."""
-    return place.parts[1] in ("usr", "bin", "sbin", "lib", "lib64")
+    return place.parts[1:2] != () and place.parts[1] in ("usr", "bin", "sbin", "lib", "lib64")
 
 
 def _put(place: Path, program: Path) -> None:

@@ -163,7 +163,10 @@ class Process:
         raise OSError(said.replace("\n", "; ") or "bwrap was killed")
 
     def _outer_ended(self, _: asyncio.Future[int]) -> None:
-        """The first process inside may need a moment yet."""
+        """The first process inside ends, too, if not by itself: bwrap may have been killed before that one
+        was bound to its life. It may need a moment yet."""
+        with contextlib.suppress(ProcessLookupError):
+            signal.pidfd_send_signal(self.inner, signal.SIGKILL)
         self.ends = watch(self.inner)
         self.ends.on_read(self._inner_ended)
 

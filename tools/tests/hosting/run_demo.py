@@ -17,11 +17,11 @@ class Demo(unittest.TestCase):
         self.addCleanup(self.host.remove)
         need_layers(self.host.text())
 
-    def order(self, *lines: str) -> None:
-        """Lines of the screen stand in this order."""
-        text = self.host.text()
-        places = [text.rindex(line) for line in lines]
-        self.assertEqual(places, sorted(places), lines)
+    def order(self, first: str, then: str) -> None:
+        """One of the instances had ended before the other was asked to. On a machine that is busy one that
+        heeds its stop may need longer than it has, and is killed."""
+        halted = [one["moniker"] for one in self.host.events("halt")]
+        self.assertLess(halted.index(first), halted.index(then), halted)
 
     def test_demo(self) -> None:
         """a product runs: providers start by a connect, crash and come back; children come and go"""
@@ -44,10 +44,12 @@ class Demo(unittest.TestCase):
                                                                          "refused 80 not-found in ."])
         self.assertEqual(host.end(), 0)
         self.assertEqual(host.left(), [])
-        self.order("stopped   client", "stopped   logger")
-        self.order("stopped   client", "stopped   store")
-        self.order("killed    reader", "stopped   store")
-        self.assertIn("last words", host.said("client"))
+        self.order("client", "logger")
+        self.order("client", "store")
+        self.order("reader", "store")
+        self.assertIn("killed    reader", host.text())
+        if "stopped   client" in host.text():
+            self.assertIn("last words", host.said("client"))
         running = {}
         for event in host.events():
             if event["event"] == "launch" and event["answer"] == "running":

@@ -200,6 +200,56 @@ class Stops(unittest.TestCase):
         self.assertEqual(host.left(), [])
 
 
+ESCAPES = "#!/bin/sh\nprintf 'red \\033[31m\\n'\nexec sleep 1000000\n"
+
+
+class Screens(unittest.TestCase):
+    """Hosts at whose screens nobody reads."""
+
+    def begin(self, screen: int) -> Host:
+        base = folder()
+        package(base / "repo", "prints", P % "", ESCAPES)
+        host = Host(base / "repo", root_of(base / "repo", "prints"), run=base / "r", screen=screen)
+        self.addCleanup(host.remove)
+        self.assertIn("started", host.ask("start prints")[0])
+        return host
+
+    def test_full(self) -> None:
+        """a screen that takes nothing holds nothing up; a program's line steers no terminal"""
+        out, into = os.pipe()
+        os.set_blocking(into, False)
+        with self.assertRaises(BlockingIOError):
+            while True:
+                os.write(into, bytes(4096))
+        os.set_blocking(into, True)
+        host = self.begin(into)
+        os.close(into)
+        host.wait_until(lambda: host.said("prints") != "", "line")
+        with open(out, "rb") as read:
+            # What stands in the pipe is no line; behind it the screen takes lines again.
+            read.read(64 << 10)
+            host.ask("stop prints", "start prints")
+            host.wait_until(lambda: host.said("prints").count("red") == 2, "second line")
+            self.assertEqual(host.end(), 0)
+            text = read.read().decode()
+        self.assertIn("lines weren't taken here; the log has them", text)
+        self.assertIn("prints | red ?[31m\n", text)
+        self.assertEqual(host.left(), [])
+
+    def test_closed(self) -> None:
+        """a screen that is closed ends nothing, neither where the runner is killed, and the status is told"""
+        out, into = os.pipe()
+        os.close(out)
+        host = self.begin(into)
+        os.close(into)
+        before = host.runner_pid()
+        os.kill(before, signal.SIGKILL)
+        host.wait_until(lambda: host.events("resumed") != [] and "started" in host.ask("start prints")[0],
+                        "next runner")
+        self.assertEqual(host.end(), 0)
+        self.assertEqual(host.left(), [])
+
+
 class Disk(unittest.TestCase):
     """A folder that is full, and a manager that can't be begun again."""
 

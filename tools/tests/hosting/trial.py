@@ -23,6 +23,8 @@ from cm_tools.meeting import connected
 TOOLS = Path(__file__).resolve().parent.parent.parent
 EXAMPLE = TOOLS.parent / "examples/host"
 ROOT = "fuchsia-pkg://demo/root#meta/root.cm"
+# A folder below this one has sockets in it, whose paths may not be long.
+LONGEST_PLACE = 60
 # All waits are that patient, in seconds: other work may fill the machine.
 PATIENCE = 240.0
 
@@ -34,7 +36,8 @@ def program() -> str:
 
 def folder() -> Path:
     """A new folder with a short path, for this user alone."""
-    return Path(tempfile.mkdtemp(prefix="host-"))
+    usual = tempfile.gettempdir()
+    return Path(tempfile.mkdtemp(prefix="host-", dir=usual if len(usual) <= LONGEST_PLACE else "/tmp"))
 
 
 def package(repo: Path, name: str, manifest: str, script: str = "", host: str = "t") -> str:
@@ -76,7 +79,7 @@ class Host:
 
     def __init__(self, repo: Path, root: str = ROOT, run: Path | None = None, options: tuple[str, ...] = (),
                  tools: Path = TOOLS, environment: dict[str, str] | None = None, waits: bool = True,
-                 before: tuple[str, ...] = ()) -> None:
+                 before: tuple[str, ...] = (), screen: int | None = None) -> None:
         self.base = run.parent if run else folder()
         self.run = run or self.base / "r"
         self.screen = self.base / f"screen-{time.monotonic_ns()}"
@@ -84,10 +87,10 @@ class Host:
                  *options]
         with open(self.screen, "wb") as out:
             self.process = subprocess.Popen(
-                words, stdout=out, stderr=subprocess.STDOUT, stdin=subprocess.DEVNULL,
+                words, stdout=out if screen is None else screen, stderr=out, stdin=subprocess.DEVNULL,
                 env={**os.environ, **(environment or {})}, start_new_session=True)
         try:
-            if waits:
+            if waits and screen is None:
                 self.wait(r"^(root|resumed) ")
         except BaseException:
             self.remove()

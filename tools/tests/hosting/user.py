@@ -30,6 +30,8 @@ LONGEST_PLACE = 32
 CANT_RUN = (126, 127)
 # How long the other user has for a word that does nothing, and for all that a script does, in seconds.
 A_MOMENT, FOR_ALL = 60, 7200
+# How long it has to say where it stands, in seconds.
+TO_SAY = 2
 
 
 def reason_to_skip() -> str:
@@ -69,9 +71,10 @@ def python_of_other() -> str:
 
 
 def as_another_user(script: str) -> int:
-    """Runs a script again, with the same words, as a user that isn't root. Its status. By TERM all ends that
-    it has begun."""
-    signal.signal(signal.SIGTERM, lambda number, _: sys.exit(128 + number))
+    """Runs a script again, with the same words, as a user that isn't root. Its status. By Ctrl-C and
+    TERM all ends that it has begun."""
+    for number in signal.SIGINT, signal.SIGTERM:
+        signal.signal(number, lambda number, _: sys.exit(128 + number))
     base = folder_of_other(find_program())
     try:
         script, python = _copied(script, os.path.join(base, "copy")), python_of_other()
@@ -80,14 +83,27 @@ def as_another_user(script: str) -> int:
         with delegated_group() as group:
             environment = {**os.environ, **group, "HOME": base, "TMPDIR": base, "PATH": "/usr/bin:/bin",
                            "COMPONENT_MANAGER": os.path.join(base, "component_manager")}
-            return subprocess.run([*OTHER, python, script, *sys.argv[1:]], env=environment,
-                                  stdin=subprocess.DEVNULL, timeout=FOR_ALL).returncode
-    except subprocess.TimeoutExpired:
-        print(f"the run of another user took more than {FOR_ALL} s")
-        return 1
+            return followed([*OTHER, python, script, *sys.argv[1:]], environment)
     finally:
         end_all(base)
         subprocess.run(["rm", "-rf", base])
+
+
+def followed(words: list[str], environment: dict[str, str]) -> int:
+    """The status of a run. Where it takes too long, or this process is told to end, it is told to, so that it
+    says where it stands, and killed a moment later."""
+    process = subprocess.Popen(words, env=environment, stdin=subprocess.DEVNULL)
+    try:
+        return process.wait(FOR_ALL)
+    except subprocess.TimeoutExpired:
+        print(f"the run of another user took more than {FOR_ALL} s", flush=True)
+        return 1
+    finally:
+        process.terminate()
+        with contextlib.suppress(subprocess.TimeoutExpired):
+            process.wait(TO_SAY)
+        process.kill()
+        process.wait()
 
 
 def folder_of_other(program: str) -> str:
