@@ -1,3 +1,4 @@
+use denote.Builtin
 use denote.Exit.{no}
 use denote.Param.{param}
 use denote.Param.Send as send
@@ -47,4 +48,4 @@ for_each_mut-requires-sync-F g c κs fits =
     (shr_sync _ _ _ global.the_sync) (shr_sync _ _ _ manager_sync)
     (shr_sync _ _ _ (turn.the_sync (Doorway.the_row door link g.D.Door g.D.Link.Source g.D.Link.Sink) Accepted.the_row Opening.the_row
     (story.ghosts door link g.D.Door story.no_dict g.D.Link.Link story.no_dict g.D.Link.Source story.no_dict g.D.Link.Sink story.no_dict
-    story.no_dict story.no_dict) way)) (shr_sync _ _ _ (send.plain_sync _ _ _ _ _))))
+    story.no_dict story.no_dict) way)) (shr_sync _ _ Builtin.u32 (send.plain_sync _ _ _ _ _))))
