@@ -1,6 +1,6 @@
 -- Inside.
 -- What is said over a connection to a runner.
-use Rattle.std.specs.Prelude.{◌≡◌, ℕ, List, [], ◌∷◌, ◌++◌, codes}
+use Rattle.std.specs.Prelude.{◌≡◌, ◌⊎◌, ℕ, List, [], ◌∷◌, ◌++◌, codes}
 use Rattle.cm_gate.specs.Runner.{halted_by, launched_by, question_line}
 use Rattle.cm_gate.specs.declared.asked.Job.{Job}
 use Rattle.cm_gate.specs.declared.asked.Launched.{Launched}
@@ -13,6 +13,10 @@ pub data Gives {C : Type 0} (gave : C → List ℕ → C → Type 0) : C → Lis
       → Gives gave before bytes between
       → gave between piece now
       → Gives gave before (bytes ++ piece) now
+
+-- at most one connection was asked for, at this place, from where a network stood to where it stands now
+abbrev pub DialsOnce : {N : Type 0} → (N → List ℕ → N → Type 0) → N → List ℕ → N → Type 0
+DialsOnce dialed before place now = (now ≡ before) ⊎ dialed before place now
 
 module _ {N C : Type 0} (connected : N → List ℕ → C → Type 0) (wrote gave : C → List ℕ → C → Type 0) where
   -- a connection was made to a place, the question was the first that was written on it, and the

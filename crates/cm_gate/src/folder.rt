@@ -3,7 +3,7 @@
 ghost use Rattle.std.specs.Prelude.{◌≡◌, ◌≢◌, ◌⊎◌, ◌<◌, ◌≤◌, ◌^◌, IfSome, None};
 ghost use Rattle.cm_io.specs.CountsInside.{count_after};
 ghost use Rattle.cm_io.specs.Outside.{Rose};
-ghost use Rattle.cm_gate.specs.Asks.{AsksHalt, AsksLaunch};
+ghost use Rattle.cm_gate.specs.Asks.{AsksHalt, AsksLaunch, DialsOnce};
 ghost use Rattle.cm_gate.specs.Failures.{is_failed_fetch, is_failed_halt, is_failed_launch};
 ghost use Rattle.cm_gate.specs.Places.{HasAtMost, place_of_fetch};
 ghost use Rattle.cm_gate.specs.Reads.{FindsFile};
@@ -66,7 +66,7 @@ impl<F: Files + Drop> FolderGates<F> {
 
 /// What a fetch finds, as [`FolderGates`] says.
 fn find_file<F: Folder>(files: &F, alloc: Global, what: &Fetch) -> Fetched
-    ensures finds { FindsFile F.opened F.refused F.File.remaining files.now what.now result }
+    ensures finds { FindsFile F.opened F.refused F.File.remaining F.broken files.now what.now result }
     ensures no_repo { what.now.repo ≡ None → result ≡ Fetched.Absent }
     ensures nowhere { place_of_fetch what.now ≡ None →
         (result ≡ Fetched.Absent) ⊎ (result ≡ Fetched.Memory) }
@@ -83,10 +83,12 @@ fn find_file<F: Folder>(files: &F, alloc: Global, what: &Fetch) -> Fetched
 }
 
 /// What a launch comes to: the runner's answer, or that the program runs where there is no runner.
-fn launch_by<N: Network>(runner: &Option<Runner>, net: &N, job: &Job) -> Launched
+fn launch_by<N: Network>(runner: &Option<Runner>, net: &mut N, job: &Job) -> Launched
     ensures recorded { runner.now ≡ None → result ≡ Launched.Running }
     ensures asks { IfSome runner.now (λ place. result ≢ Launched.Failed → AsksLaunch
-        N.connected N.Connection.wrote N.Connection.gave net.now place job.now result) }
+        N.connected N.Connection.wrote N.Connection.gave net.new place job.now result) }
+    ensures once { IfSome runner.now (λ place. DialsOnce N.dialed net.old place net.new) }
+    ensures never { runner.now ≡ None → net.new ≡ net.old }
 {
     match runner {
         Some(runner) => runner.launch(net, job),
@@ -95,10 +97,12 @@ fn launch_by<N: Network>(runner: &Option<Runner>, net: &N, job: &Job) -> Launche
 }
 
 /// What a halt comes to: the runner's answer, or that the program has stopped where there is no runner.
-fn halt_by<N: Network>(runner: &Option<Runner>, net: &N, job: &Job) -> Halted
+fn halt_by<N: Network>(runner: &Option<Runner>, net: &mut N, job: &Job) -> Halted
     ensures recorded { runner.now ≡ None → result ≡ Halted.Stopped }
     ensures asks { IfSome runner.now (λ place. result ≢ Halted.Failed → AsksHalt
-        N.connected N.Connection.wrote N.Connection.gave net.now place job.now result) }
+        N.connected N.Connection.wrote N.Connection.gave net.new place job.now result) }
+    ensures once { IfSome runner.now (λ place. DialsOnce N.dialed net.old place net.new) }
+    ensures never { runner.now ≡ None → net.new ≡ net.old }
 {
     match runner {
         Some(runner) => runner.halt(net, job),
@@ -130,7 +134,8 @@ impl<F: Folder + Network + Drop> Gates for FolderGates<F> {
         _idle: &Pass<Entry, Frame>,
         what: &Fetch,
     ) -> Fetched
-        ensures finds { FindsFile F.opened F.refused F.File.remaining self.old.files what.now result }
+        ensures finds { let files = self.old.files in
+            FindsFile F.opened F.refused F.File.remaining F.broken files what.now result }
         ensures call { self.new
             ≡ record self.old { faults = count_after (is_failed_fetch result) self.old.faults } }
         ensures later { self.old.faults ≤ self.new.faults }
@@ -148,23 +153,28 @@ impl<F: Folder + Network + Drop> Gates for FolderGates<F> {
 
     /// Asks the runner, if there is one; else the program is taken to run. An answer but `Failed` is
     /// what the runner answered to this very question, over a connection that was made to its place,
-    /// and it was told that this is taken.
+    /// and it was told that this is taken. It is asked once.
     fn launch<R: Threads + Wait + Sync>(
         &mut self,
         _rt: &R,
         _idle: &Pass<Entry, Frame>,
         job: &Job,
     ) -> Launched
-        ensures call { self.new
-            ≡ record self.old { faults = count_after (is_failed_launch result) self.old.faults } }
+        ensures call { self.new ≡ record self.old {
+          files = self.new.files;
+          faults = count_after (is_failed_launch result) self.old.faults;
+        } }
         ensures later { self.old.faults ≤ self.new.faults }
         ensures fault { result ≡ Launched.Failed → Rose self.old.faults self.new.faults }
         ensures bound { self.new.faults < 2 ^ 64 }
         ensures recorded { self.old.runner ≡ None → result ≡ Launched.Running }
         ensures asks { IfSome self.old.runner (λ place. result ≢ Launched.Failed → AsksLaunch
-            F.connected F.Connection.wrote F.Connection.gave self.old.files place job.now result) }
+            F.connected F.Connection.wrote F.Connection.gave self.new.files place job.now result) }
+        ensures once { IfSome self.old.runner (λ place.
+            DialsOnce F.dialed self.old.files place self.new.files) }
+        ensures never { self.old.runner ≡ None → self.new.files ≡ self.old.files }
     {
-        let answer = launch_by(&self.runner, &self.files, job);
+        let answer = launch_by(&self.runner, &mut self.files, job);
         self.faults.count(answer.is_failed());
         answer
     }
@@ -176,16 +186,21 @@ impl<F: Folder + Network + Drop> Gates for FolderGates<F> {
         _idle: &Pass<Entry, Frame>,
         job: &Job,
     ) -> Halted
-        ensures call { self.new
-            ≡ record self.old { faults = count_after (is_failed_halt result) self.old.faults } }
+        ensures call { self.new ≡ record self.old {
+          files = self.new.files;
+          faults = count_after (is_failed_halt result) self.old.faults;
+        } }
         ensures later { self.old.faults ≤ self.new.faults }
         ensures fault { result ≡ Halted.Failed → Rose self.old.faults self.new.faults }
         ensures bound { self.new.faults < 2 ^ 64 }
         ensures recorded { self.old.runner ≡ None → result ≡ Halted.Stopped }
         ensures asks { IfSome self.old.runner (λ place. result ≢ Halted.Failed → AsksHalt
-            F.connected F.Connection.wrote F.Connection.gave self.old.files place job.now result) }
+            F.connected F.Connection.wrote F.Connection.gave self.new.files place job.now result) }
+        ensures once { IfSome self.old.runner (λ place.
+            DialsOnce F.dialed self.old.files place self.new.files) }
+        ensures never { self.old.runner ≡ None → self.new.files ≡ self.old.files }
     {
-        let answer = halt_by(&self.runner, &self.files, job);
+        let answer = halt_by(&self.runner, &mut self.files, job);
         self.faults.count(answer.is_failed());
         answer
     }

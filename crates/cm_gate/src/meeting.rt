@@ -6,6 +6,7 @@ ghost use Rattle.cm_io.specs.Outside.{Rose};
 ghost use Rattle.cm_gate.specs.Failures.{is_failed_fetch};
 ghost use Rattle.cm_gate.specs.Manifests.{manifest_at};
 ghost use Rattle.cm_gate.specs.Meeting.{FindsMet};
+ghost use Rattle.std.specs.Arc.{arc_value};
 
 use crate::count::FaultCount;
 use crate::manifests::find_manifest;
@@ -38,8 +39,9 @@ pub trait Flag {
     fn raise(&self)
         ensures { raised self.now };
 
-    /// Whether it is up.
-    fn is_up(&self) -> bool
+    /// Whether it is up. Nobody looks who hasn't raised its own before.
+    fn is_up(&self, own: &Self) -> bool
+        requires { raised own.now }
         ensures { IsTrue result → seen self.now };
 }
 
@@ -56,7 +58,7 @@ impl Flag for AtomicBool {
     }
 
     /// Whether some thread has stored `true`.
-    fn is_up(&self) -> bool {
+    fn is_up(&self, _own: &AtomicBool) -> bool {
         self.load(Ordering::SeqCst)
     }
 }
@@ -91,18 +93,18 @@ impl<W> Model for MeetingGates<W> {
     } };
 }
 
-impl MeetingGates<AtomicBool> {
-    /// The gates of two callers, neither of which has fetched yet. Each knows the manifests.
-    /// `Memory` where memory ran out.
-    pub fn pair(
-        alloc: Global,
+impl<W: Drop> MeetingGates<W> {
+    /// The gates of two callers over these two words: each raises its own, and looks at the other's.
+    fn crossed(
+        first: Arc<W, Global>,
+        second: Arc<W, Global>,
         manifests: List<Manifest>,
-    ) -> Result<(MeetingGates, MeetingGates), Memory>
-        ensures first { IfOk result (λ pair. (pair.0.manifests ≡ manifests) × (pair.0.faults ≡ 0)) }
-        ensures second { IfOk result (λ pair. (pair.1.manifests ≡ manifests) × (pair.1.faults ≡ 0)) }
+    ) -> Result<(MeetingGates<W>, MeetingGates<W>), Memory>
+        ensures one { IfOk result (λ pair. (pair.0.manifests ≡ manifests) × (pair.0.faults ≡ 0)
+            × (pair.0.own ≡ arc_value first) × (pair.0.other ≡ arc_value second)) }
+        ensures two { IfOk result (λ pair. (pair.1.manifests ≡ manifests) × (pair.1.faults ≡ 0)
+            × (pair.1.own ≡ arc_value second) × (pair.1.other ≡ arc_value first)) }
     {
-        let first = Arc::new(alloc, AtomicBool::new(false))?;
-        let second = Arc::new(alloc, AtomicBool::new(false))?;
         let other = MeetingGates {
             manifests: manifests.clone()?,
             own: Arc::try_clone(&second)?,
@@ -116,6 +118,22 @@ impl MeetingGates<AtomicBool> {
             faults: FaultCount::new(),
         };
         Ok((one, other))
+    }
+}
+
+impl MeetingGates<AtomicBool> {
+    /// The gates of two callers, neither of which has fetched yet. Each knows the manifests.
+    /// `Memory` where memory ran out.
+    pub fn pair(
+        alloc: Global,
+        manifests: List<Manifest>,
+    ) -> Result<(MeetingGates, MeetingGates), Memory>
+        ensures first { IfOk result (λ pair. (pair.0.manifests ≡ manifests) × (pair.0.faults ≡ 0)) }
+        ensures second { IfOk result (λ pair. (pair.1.manifests ≡ manifests) × (pair.1.faults ≡ 0)) }
+    {
+        let first = Arc::new(alloc, AtomicBool::new(false))?;
+        let second = Arc::new(alloc, AtomicBool::new(false))?;
+        MeetingGates::crossed(first, second, manifests)
     }
 }
 
@@ -133,7 +151,7 @@ impl<W: Flag + Drop> MeetingGates<W> {
     {
         self.own.raise();
         for look in 0..LOOKS {
-            if self.other.is_up() {
+            if self.other.is_up(self.own.as_ref()) {
                 return true;
             }
             if look % LOOKS_IN_A_ROW == 0 {

@@ -46,9 +46,14 @@ pub trait Network {
     /// A connection was made to who listens at a place of this network, and nothing was said yet.
     ghost connected: { Self → List ℕ → Self.Connection → Type 0 };
 
+    /// One connection to who listens at a place was asked for, and made or not, from where the network
+    /// stood to where it stands now.
+    ghost dialed: { Self → List ℕ → Self → Type 0 };
+
     /// Makes a connection to who listens at a place.
-    fn connect_to(&self, place: &str) -> io::Result<Self::Connection>
-        ensures { IfOk result (λ connection. connected self.now place.now connection) };
+    fn connect_to(&mut self, place: &str) -> io::Result<Self::Connection>
+        ensures connected { IfOk result (λ connection. connected self.new place.now connection) }
+        ensures dialed { dialed self.old place.now self.new };
 }
 
 impl Connection for UnixStream {
@@ -77,9 +82,11 @@ impl<N: Net> Network for N {
 
     ghost connected = { λ _ _ _. ⊤ };
 
+    ghost dialed = { λ _ _ _. ⊤ };
+
     /// Connects to the socket file at the path. Reads and writes on it fail after a fixed time without
     /// an answer.
-    fn connect_to(&self, place: &str) -> io::Result<UnixStream> {
+    fn connect_to(&mut self, place: &str) -> io::Result<UnixStream> {
         let stream = UnixStream::connect(self, place)?;
         stream.set_read_timeout(Some(Duration::from_secs(PATIENCE)))?;
         stream.set_write_timeout(Some(Duration::from_secs(PATIENCE)))?;

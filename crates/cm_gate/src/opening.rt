@@ -1,6 +1,6 @@
 //! Folders, of which a file is opened and read from its beginning.
 
-ghost use Rattle.std.specs.Prelude.{◌≡◌, ◌⊎◌, ◌≤◌, IfErr, IfOk, length};
+ghost use Rattle.std.specs.Prelude.{◌≡◌, ◌≢◌, ◌⊎◌, ◌≤◌, IfErr, IfOk, length};
 ghost use Rattle.std.specs.IoError.{error_kind};
 ghost use Rattle.cm_gate.specs.Places.{HasAtMost};
 ghost use Rattle.cm_gate.specs.Reads.{FindsAt, FindsIn, IsPrefix, IsMissing};
@@ -18,7 +18,7 @@ const LONGEST_READ: u64 = 1_048_577;
 
 /// Where files are found by their places.
 ///
-/// Each system of files is such a folder, which says nothing of what stands where.
+/// Each system of files is such a folder, which says nothing of what stands where, or what breaks.
 pub trait Folder {
     ghost use Rattle.std.specs.Prelude.{ℕ, List};
     ghost use Rattle.std.specs.declared.io.ErrorKind.{ErrorKind};
@@ -32,10 +32,19 @@ pub trait Folder {
     /// No file was opened at a place of this folder, for this reason.
     ghost refused: { Self → List ℕ → ErrorKind → Type 0 };
 
+    /// An open file was read, and broke for this reason.
+    ghost broken: { Self.File → ErrorKind → Type 0 };
+
     /// Opens the file at a place.
     fn open_at(&self, place: &str) -> io::Result<Self::File>
         ensures opened { IfOk result (λ file. opened self.now place.now file) }
         ensures refused { IfErr result (λ error. refused self.now place.now (error_kind error)) };
+
+    /// Reads the bytes that an open file has left, or the first 1,048,577 of them.
+    fn read_prefix(&self, file: Self::File, alloc: Global) -> io::Result<Vec<u8>>
+        ensures prefix { IfOk result (λ bytes. IsPrefix 1048577 (Self.File.remaining file) bytes.items) }
+        ensures length { IfOk result (λ bytes. length bytes.items ≤ 1048577) }
+        ensures broken { IfErr result (λ error. broken file (error_kind error)) };
 }
 
 impl<F: Files> Folder for F {
@@ -48,15 +57,22 @@ impl<F: Files> Folder for F {
 
     ghost refused = { λ _ _ _. ⊤ };
 
+    ghost broken = { λ _ _. ⊤ };
+
     /// Opens the file at the path for reading.
     fn open_at(&self, place: &str) -> io::Result<F::File> {
         fs::open(self, place)
     }
+
+    /// Reads on from where the file stands. The bound doesn't rest on how many bytes the file says that
+    /// it gave.
+    fn read_prefix(&self, file: F::File, alloc: Global) -> io::Result<Vec<u8>> {
+        read_up_to_limit(file, alloc)
+    }
 }
 
-/// The bytes that a file has left, or the first 1,048,577 of them. The bound doesn't rest on how many
-/// bytes the file says that it gave.
-fn read_prefix<T: Read + Drop>(file: T, alloc: Global) -> io::Result<Vec<u8>>
+/// The bytes that a file has left, or the first 1,048,577 of them.
+fn read_up_to_limit<T: Read + Drop>(file: T, alloc: Global) -> io::Result<Vec<u8>>
     ensures prefix { IfOk result (λ bytes. IsPrefix 1048577 (T.remaining file) bytes.items) }
     ensures length { IfOk result (λ bytes. length bytes.items ≤ 1048577) }
 {
@@ -75,6 +91,7 @@ fn unopened(error: &io::Error) -> Fetched
     ensures failed { (result ≡ Fetched.Failed) ⊎ (IsMissing (error_kind error.now))
         ⊎ (error_kind error.now ≡ ErrorKind.OutOfMemory) }
     ensures there { result ≡ Fetched.Failed → IsMissing (error_kind error.now) → ⊥ }
+    ensures other { result ≡ Fetched.Failed → error_kind error.now ≢ ErrorKind.OutOfMemory }
 {
     match error.kind() {
         ErrorKind::NotFound | ErrorKind::NotADirectory => Fetched::Absent,
@@ -87,6 +104,7 @@ fn unopened(error: &io::Error) -> Fetched
 fn unread(error: &io::Error) -> Fetched
     ensures memory { error_kind error.now ≡ ErrorKind.OutOfMemory → result ≡ Fetched.Memory }
     ensures failed { (result ≡ Fetched.Failed) ⊎ (error_kind error.now ≡ ErrorKind.OutOfMemory) }
+    ensures other { result ≡ Fetched.Failed → error_kind error.now ≢ ErrorKind.OutOfMemory }
 {
     match error.kind() {
         ErrorKind::OutOfMemory => Fetched::Memory,
@@ -95,11 +113,11 @@ fn unread(error: &io::Error) -> Fetched
 }
 
 /// What is found in a file that was opened.
-fn find_in<T: Read + Drop>(file: T, alloc: Global) -> Fetched
-    ensures finds { FindsIn T.remaining file result }
+fn find_in<F: Folder>(folder: &F, file: F::File, alloc: Global) -> Fetched
+    ensures finds { FindsIn F.File.remaining F.broken file result }
     ensures length { HasAtMost 1048577 result }
 {
-    match read_prefix(file, alloc) {
+    match folder.read_prefix(file, alloc) {
         Ok(bytes) => Fetched::Found(List::from_vec(bytes)),
         Err(error) => unread(&error),
     }
@@ -107,11 +125,11 @@ fn find_in<T: Read + Drop>(file: T, alloc: Global) -> Fetched
 
 /// What is found at a place of a folder.
 pub(crate) fn find_at<F: Folder>(folder: &F, alloc: Global, place: &str) -> Fetched
-    ensures finds { FindsAt F.opened F.refused F.File.remaining folder.now place.now result }
+    ensures finds { FindsAt F.opened F.refused F.File.remaining F.broken folder.now place.now result }
     ensures length { HasAtMost 1048577 result }
 {
     match folder.open_at(place) {
-        Ok(file) => find_in(file, alloc),
+        Ok(file) => find_in(folder, file, alloc),
         Err(error) => unopened(&error),
     }
 }

@@ -13,7 +13,7 @@
 //! times are this project's own choice.
 
 ghost use Rattle.std.specs.Prelude.{◌≡◌, ◌≢◌, IfOk};
-ghost use Rattle.cm_gate.specs.Asks.{AsksHalt, AsksLaunch, Gives, IsAnswered};
+ghost use Rattle.cm_gate.specs.Asks.{AsksHalt, AsksLaunch, DialsOnce, Gives, IsAnswered};
 ghost use Rattle.cm_gate.specs.Runner.{halted_by, launched_by, question_line};
 
 use crate::{Connection, Halted, Job, Launched, Network};
@@ -51,11 +51,12 @@ impl Runner {
 
     /// Has a program started. `Failed` comes where the runner gave no answer, or none that was asked
     /// for, or wasn't told that its answer was taken. Any other answer is the runner's own to this
-    /// very question, and was taken.
+    /// very question, and was taken. It is asked once.
     #[tactic(auto, using(crate::proofs::Asking::asks_launch))]
-    pub(crate) fn launch<N: Network>(&self, net: &N, job: &Job) -> Launched
+    pub(crate) fn launch<N: Network>(&self, net: &mut N, job: &Job) -> Launched
         ensures asks { result ≢ Launched.Failed → AsksLaunch
-            N.connected N.Connection.wrote N.Connection.gave net.now self.now job.now result }
+            N.connected N.Connection.wrote N.Connection.gave net.new self.now job.now result }
+        ensures once { DialsOnce N.dialed net.old self.now net.new }
     {
         let Ok((mut connection, answer)) = self.ask(net, "launch", job) else {
             return Launched::Failed;
@@ -72,9 +73,10 @@ impl Runner {
 
     /// Has a program stopped. `Failed` comes as in `launch`.
     #[tactic(auto, using(crate::proofs::Asking::asks_halt))]
-    pub(crate) fn halt<N: Network>(&self, net: &N, job: &Job) -> Halted
+    pub(crate) fn halt<N: Network>(&self, net: &mut N, job: &Job) -> Halted
         ensures asks { result ≢ Halted.Failed → AsksHalt
-            N.connected N.Connection.wrote N.Connection.gave net.now self.now job.now result }
+            N.connected N.Connection.wrote N.Connection.gave net.new self.now job.now result }
+        ensures once { DialsOnce N.dialed net.old self.now net.new }
     {
         let Ok((mut connection, answer)) = self.ask(net, "halt", job) else {
             return Halted::Failed;
@@ -93,12 +95,13 @@ impl Runner {
     #[tactic(auto, using(crate::proofs::Asking::is_answered))]
     fn ask<N: Network>(
         &self,
-        net: &N,
+        net: &mut N,
         word: &str,
         job: &Job,
     ) -> io::Result<(N::Connection, Vec<u8>)>
-        ensures { IfOk result (λ read. IsAnswered N.connected N.Connection.wrote N.Connection.gave
-            net.now self.now (question_line word.now job.now) read.1.items read.0) }
+        ensures answered { IfOk result (λ read. IsAnswered N.connected N.Connection.wrote
+            N.Connection.gave net.new self.now (question_line word.now job.now) read.1.items read.0) }
+        ensures once { DialsOnce N.dialed net.old self.now net.new }
     {
         let line = match question(self.alloc, word, job) {
             Ok(line) => line,

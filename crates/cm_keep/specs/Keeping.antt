@@ -36,9 +36,12 @@ PutsUp None old new = Unit {0}
 PutsUp (Some text) None new = Unit {0}
 PutsUp (Some text) (Some texts) new = new ≡ Some (texts ++ text ∷ [])
 
--- this text was added to what had been handed over, and all of that was put into the journal's place
-abbrev pub IsKept : Option TextBytes → Option (List TextBytes) → Option (List TextBytes) → TextBytes → Type 0
-IsKept draft old new text = (whole : Option TextBytes) × Appends draft whole text × PutsUp whole old new
+-- this text was added to what had been handed over, and all of that was put into the journal's place, where
+-- it stands
+abbrev pub IsKept : Option TextBytes → Option (List TextBytes) → Option (List TextBytes) →
+    (Option TextBytes → Type 0) → TextBytes → Type 0
+IsKept draft old new Stands text =
+    (whole : Option TextBytes) × Appends draft whole text × PutsUp whole old new × Stands whole
 
 -- what is held after the keeping of a text: nothing; or, where the keeper failed, all of it, which couldn't
 -- be put into the place

@@ -1,15 +1,13 @@
 //! A keeper that writes a file.
 
-ghost use Rattle.std.specs.Prelude.{◌≡◌, IfOk, Some};
+ghost use Rattle.std.specs.Prelude.{◌≡◌, false, IfOk, Some};
 ghost use Rattle.cm_io.specs.Counts.{one_more};
 
-use crate::TextKeeper;
+use crate::{FilePlace, TextKeeper};
 use cm_names::{Memory, Text};
 use std::alloc::Global;
-use std::fs::{OpenFile, OpenOptions};
+use std::io;
 use std::io::{Error, ErrorKind, Write};
-use std::rt::Files;
-use std::{fs, io};
 
 /// A keeper of a file, for a path of the file system.
 ///
@@ -17,31 +15,34 @@ use std::{fs, io};
 /// its end. That is written through to the disk and renamed when it is whole. So at any time, and after
 /// any end of the process, a file that stands at the path is a whole one.
 #[derive(Drop)]
-pub struct FileKeeper<F: Files> {
+pub struct FileKeeper<F: FilePlace> {
     files: F,
     place: Text,
     beside: Text,
-    file: F::File,
+    file: F::Draft,
     is_pending: bool,
     is_left: bool,
     faults: u64,
     why: Option<Error>,
 }
 
-impl<F: Files + Drop> FileKeeper<F> {
+impl<F: FilePlace + Drop> FileKeeper<F> {
     /// A keeper for this path, whose new file is there and empty. `number` is that of the process.
     ///
     /// `Err` where the path is empty or names a folder or a thing that is no regular file, and where no
     /// file can be made beside it.
     pub fn new(alloc: Global, files: F, number: u32, place: &Text) -> io::Result<FileKeeper<F>>
-        ensures { IfOk result (λ keeper. ⟦<FileKeeper<F> as TextKeeper>⟧.pending keeper) }
+        ensures pending { IfOk result (λ keeper. ⟦<FileKeeper<F> as TextKeeper>⟧.pending keeper) }
+        ensures faults { IfOk result (λ keeper. ⟦<FileKeeper<F> as TextKeeper>⟧.faults keeper ≡ 0) }
+        ensures created { IfOk result (λ keeper. F.created keeper.beside keeper.file) }
+        ensures place { IfOk result (λ keeper. keeper.place ≡ place.now) }
     {
-        check_place(&files, place.as_str())?;
+        files.check(place.as_str())?;
         let (place, beside) = match names(alloc, number, place) {
             Ok(names) => names,
             Err(Memory) => return Err(Error::from(ErrorKind::OutOfMemory)),
         };
-        let file = new_file(&files, beside.as_str())?;
+        let file = files.create(beside.as_str())?;
         Ok(FileKeeper {
             files,
             place,
@@ -81,23 +82,6 @@ impl<F: Files + Drop> FileKeeper<F> {
     }
 }
 
-/// Refuses a path at which no file can come to stand.
-fn check_place<F: Files>(files: &F, place: &str) -> io::Result<()> {
-    if place.is_empty() {
-        return Err(Error::new(ErrorKind::InvalidInput, "no file is named"));
-    }
-    if place.ends_with("/") {
-        return Err(Error::from(ErrorKind::IsADirectory));
-    }
-    match fs::metadata(files, place) {
-        Ok(found) if found.is_file() => Ok(()),
-        Ok(found) if found.is_dir() => Err(Error::from(ErrorKind::IsADirectory)),
-        Ok(_) => Err(Error::new(ErrorKind::InvalidInput, "not a regular file")),
-        Err(error) if error.kind() == ErrorKind::NotFound => Ok(()),
-        Err(error) => Err(error),
-    }
-}
-
 /// The path, and that of the new file beside it.
 fn names(alloc: Global, number: u32, place: &Text) -> Result<(Text, Text), Memory>
     ensures { IfOk result (λ names. names.0 ≡ place.now) }
@@ -107,33 +91,17 @@ fn names(alloc: Global, number: u32, place: &Text) -> Result<(Text, Text), Memor
     Ok((place.clone()?, beside))
 }
 
-/// A new file. One that is left of a process of that number which was killed is taken away before.
-fn new_file<F: Files>(files: &F, path: &str) -> io::Result<F::File> {
-    match fs::remove_file(files, path) {
-        Ok(()) => {}
-        Err(error) if error.kind() == ErrorKind::NotFound => {}
-        Err(error) => return Err(error),
-    }
-    OpenOptions::new()
-        .write(true)
-        .create_new(true)
-        .open(files, path)
-}
+impl<F: FilePlace + Drop> TextKeeper for FileKeeper<F> {
+    ghost use Rattle.std.specs.Prelude.{◌≡◌, [], ◌∷◌, None, false, true};
 
-/// Takes a file away, where that is possible.
-fn take_away<F: Files>(files: &F, path: &str) {
-    match fs::remove_file(files, path) {
-        Ok(()) => {}
-        Err(_) => {}
-    }
-}
-
-impl<F: Files + Drop> TextKeeper for FileKeeper<F> {
-    ghost use Rattle.std.specs.Prelude.{◌≡◌, None, false, true};
-
-    ghost draft = { λ k. F.File.Write.contents k.file };
+    ghost draft = { λ k. F.Draft.contents k.file };
 
     ghost shown = { λ _. None };
+
+    ghost placed = { λ k text. (text ≡ F.Draft.contents k.file) × F.synced k.file
+        × F.renamed k.beside k.place };
+
+    ghost names = { λ k. k.beside ∷ k.place ∷ [] };
 
     ghost pending = { λ k. k.is_pending ≡ true };
 
@@ -155,12 +123,12 @@ impl<F: Files + Drop> TextKeeper for FileKeeper<F> {
     /// Syncs the file beside the place and renames it to the place, so that a whole text always stands
     /// there. Tells whether that went well.
     fn show(&mut self) -> bool {
-        if let Err(why) = self.file.sync_all() {
+        if let Err(why) = self.files.sync(&self.file) {
             self.give_up();
             self.fail(why);
             return false;
         }
-        match fs::rename(&self.files, self.beside.as_str(), self.place.as_str()) {
+        match self.files.rename(self.beside.as_str(), self.place.as_str()) {
             Ok(()) => {
                 self.is_pending = false;
                 true
@@ -173,12 +141,13 @@ impl<F: Files + Drop> TextKeeper for FileKeeper<F> {
         }
     }
 
-    /// Removes the file beside the place, where one was begun.
-    fn give_up(&mut self) {
-        if self.is_pending {
-            take_away(&self.files, self.beside.as_str());
-            self.is_pending = false;
-        }
+    /// Has the system remove the file beside the place. Whether it does is the system's own.
+    fn give_up(&mut self)
+        ensures cleared { self.new ≡ record self.old { is_pending = false } }
+        ensures unnamed { F.unnamed self.old.beside }
+    {
+        self.files.remove(self.beside.as_str());
+        self.is_pending = false;
     }
 }
 

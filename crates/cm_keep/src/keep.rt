@@ -60,6 +60,7 @@ fn hand_over<P: TextKeeper>(keeper: &mut P, held: &mut String) -> Result<(), Kee
         (Appends (P.draft keeper.old) (P.draft keeper.new) (string_bytes held.old)) }
     ensures empty { OnOk result (string_bytes held.new ≡ []) }
     ensures shown { P.shown keeper.new ≡ P.shown keeper.old }
+    ensures names { P.names keeper.new ≡ P.names keeper.old }
     ensures cause { Caused (P.faults keeper.old) (P.faults keeper.new) result }
 {
     if !keeper.put(held.as_str().as_bytes()) {
@@ -83,6 +84,7 @@ fn keep_entry<P: TextKeeper>(
         (string_bytes held.old) (string_bytes held.new)
         (journal.line (journal.entry_text number entry.now))) }
     ensures shown { P.shown keeper.new ≡ P.shown keeper.old }
+    ensures names { P.names keeper.new ≡ P.names keeper.old }
     ensures cause { Caused (P.faults keeper.old) (P.faults keeper.new) result }
 {
     let Ok(()) = push_line(held, number, entry) else {
@@ -105,6 +107,7 @@ fn keep_entries<P: TextKeeper>(
     ensures passes { OnOk result (Passes (P.draft keeper.old) (P.draft keeper.new)
         (string_bytes held.old) (string_bytes held.new) (journal.entries_text 1 entries.now)) }
     ensures shown { P.shown keeper.new ≡ P.shown keeper.old }
+    ensures names { P.names keeper.new ≡ P.names keeper.old }
     ensures cause { Caused (P.faults keeper.old) (P.faults keeper.new) result }
 {
     for index in 0..entries.len() {
@@ -127,6 +130,7 @@ fn hand_journal<P: TextKeeper>(
     ensures handed { OnOk result
         (Appends (P.draft keeper.old) (P.draft keeper.new) (kept_text root.now entries.now)) }
     ensures shown { P.shown keeper.new ≡ P.shown keeper.old }
+    ensures names { P.names keeper.new ≡ P.names keeper.old }
     ensures cause { Caused (P.faults keeper.old) (P.faults keeper.new) result }
 {
     let Ok(head) = head_of(alloc, root) else {
@@ -159,7 +163,8 @@ pub fn keep_journal<P: TextKeeper>(
 ) -> Result<(), KeepFault>
     requires pending { P.pending keeper.old }
     ensures kept { OnOk result (IsKept (P.draft keeper.old) (P.shown keeper.old) (P.shown keeper.new)
-        (kept_text root.now entries.now)) }
+        (P.placed keeper.new) (kept_text root.now entries.now)) }
+    ensures names { P.names keeper.new ≡ P.names keeper.old }
     ensures nothing { OnErr result (P.shown keeper.new ≡ P.shown keeper.old) }
     ensures left { IsLeft (P.cleared keeper.new) (P.draft keeper.old) (P.draft keeper.new)
         (kept_text root.now entries.now) result }

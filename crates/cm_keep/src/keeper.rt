@@ -18,6 +18,12 @@ pub trait TextKeeper: Drop {
     /// That this keeper has not put its text there yet: after that nothing more is handed over.
     ghost pending: { Self → Type 0 };
 
+    /// These bytes were put into the place, and stand there now.
+    ghost placed: { Self → Option (List ℕ) → Type 0 };
+
+    /// The names that the text is written under, one after the other. They stay.
+    ghost names: { Self → List (List ℕ) };
+
     /// Nothing of what was handed over is held any more, but what stands in the place.
     ghost cleared: { Self → Type 0 };
 
@@ -31,6 +37,7 @@ pub trait TextKeeper: Drop {
         ensures pending { pending self.new }
         ensures bytes { result ≡ true → Appends (draft self.old) (draft self.new) bytes.now }
         ensures shown { shown self.new ≡ shown self.old }
+        ensures names { names self.new ≡ names self.old }
         ensures cause { Counted (faults self.old) (faults self.new) result };
 
     /// Puts the text into the place. Whether it stands there now; where it failed, what stood there before
@@ -38,14 +45,18 @@ pub trait TextKeeper: Drop {
     fn show(&mut self) -> bool
         requires pending { pending self.old }
         ensures shown { result ≡ true → PutsUp (draft self.old) (shown self.old) (shown self.new) }
+        ensures placed { result ≡ true → placed self.new (draft self.old) }
         ensures failed { result ≡ false → shown self.new ≡ shown self.old }
+        ensures names { names self.new ≡ names self.old }
         ensures cleared { result ≡ true → cleared self.new }
         ensures held { result ≡ false → cleared self.new ⊎ (draft self.new ≡ draft self.old) }
         ensures cause { Counted (faults self.old) (faults self.new) result };
 
-    /// Lets go of the bytes that were handed over. What stands in the place stays there.
+    /// Lets go of the bytes that were handed over and not put there. What stands in the place stays there.
     fn give_up(&mut self)
+        requires pending { pending self.old }
         ensures cleared { cleared self.new }
         ensures shown { shown self.new ≡ shown self.old }
+        ensures names { names self.new ≡ names self.old }
         ensures faults { faults self.new ≡ faults self.old };
 }

@@ -7,6 +7,7 @@
 //! | file of `specs/` | says |
 //! |---|---|
 //! | `Keeping` | what the journal of a served realm is, and what it means that it is kept |
+//! | `Files` | what it means that it stands in a file |
 //! | `Service` | of which service a journal is kept |
 #![tactic(auto)]
 
@@ -15,6 +16,7 @@ mod keep;
 mod keeper;
 pub mod laws;
 mod memory;
+mod place;
 mod service;
 #[cfg(test)]
 mod tests;
@@ -23,4 +25,5 @@ pub use file::{FileKeeper, fault_line};
 pub use keep::{KeepFault, keep_journal};
 pub use keeper::TextKeeper;
 pub use memory::MemoryKeeper;
+pub use place::FilePlace;
 pub use service::{Keeping, Unkept, keep_book, keep_service, keeping_of, try_keeping};

@@ -1,6 +1,6 @@
 //! A keeper in memory, which fails where it is planned.
 
-ghost use Rattle.std.specs.Prelude.{◌≡◌, Some, []};
+ghost use Rattle.std.specs.Prelude.{◌≡◌, ℕ, List as Seq, Some, [], length};
 ghost use Rattle.cm_io.specs.Counts.{one_more};
 ghost use Rattle.cm_io.specs.CountsInside.{count_after};
 
@@ -27,6 +27,7 @@ impl MemoryKeeper {
         ensures draft { ⟦<MemoryKeeper as TextKeeper>⟧.draft result ≡ Some [] }
         ensures shown { ⟦<MemoryKeeper as TextKeeper>⟧.shown result ≡ Some [] }
         ensures pending { ⟦<MemoryKeeper as TextKeeper>⟧.pending result }
+        ensures faults { ⟦<MemoryKeeper as TextKeeper>⟧.faults result ≡ 0 }
     {
         MemoryKeeper {
             alloc,
@@ -52,7 +53,10 @@ impl MemoryKeeper {
     }
 
     /// How many bytes were handed over that don't stand in the place.
-    pub fn held(&self) -> usize {
+    pub fn held(&self) -> usize
+        ensures { (held : Seq ℕ) → ⟦<MemoryKeeper as TextKeeper>⟧.draft self.now ≡ Some held →
+            result ≡ length held }
+    {
         self.draft.len()
     }
 
@@ -73,11 +77,15 @@ impl MemoryKeeper {
 }
 
 impl TextKeeper for MemoryKeeper {
-    ghost use Rattle.std.specs.Prelude.{◌≡◌, [], Some, true};
+    ghost use Rattle.std.specs.Prelude.{◌≡◌, [], Some, true, ⊤};
 
     ghost draft = { λ k. Some k.draft.items };
 
     ghost shown = { λ k. Some k.shown };
+
+    ghost placed = { λ _ _. ⊤ };
+
+    ghost names = { λ _. [] };
 
     ghost pending = { λ k. k.is_pending ≡ true };
 

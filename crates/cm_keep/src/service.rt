@@ -1,16 +1,16 @@
 //! The journal of a service: where it is to be kept, and its keeping.
 
-ghost use Rattle.std.specs.Prelude.{◌≡◌, IfOk, OnErr, OnOk};
+ghost use Rattle.std.specs.Prelude.{◌≡◌, ◌⊎◌, IfOk, IsOk, OnErr, OnOk};
+ghost use Rattle.cm_keep.specs.Files.{IsTried, NeverBegan, StandsAt};
 ghost use Rattle.cm_keep.specs.Keeping.{Caused, IsKept, IsLeft, kept_text};
 ghost use Rattle.cm_keep.specs.Service.{Plans};
 
-use crate::{FileKeeper, KeepFault, TextKeeper, fault_line, keep_journal};
+use crate::{FileKeeper, FilePlace, KeepFault, TextKeeper, fault_line, keep_journal};
 use cm_book::Book;
 use cm_call::{Call, WordsFault, read_words};
 use cm_names::{Memory, Text};
 use std::alloc::Global;
 use std::io::ErrorKind;
-use std::rt::Files;
 
 /// The journal that is to be kept of a service.
 #[derive(Drop)]
@@ -60,13 +60,15 @@ fn as_unkept(line: Result<Text, Memory>) -> Unkept {
 }
 
 /// A keeper for the journal. `number` is that of the process.
-fn keeper_of<F: Files + Drop>(
+fn keeper_of<F: FilePlace + Drop>(
     alloc: Global,
     files: F,
     number: u32,
     keeping: &Keeping,
 ) -> Result<FileKeeper<F>, Unkept>
-    ensures { IfOk result (λ keeper. ⟦<FileKeeper<F> as TextKeeper>⟧.pending keeper) }
+    ensures pending { IfOk result (λ keeper. ⟦<FileKeeper<F> as TextKeeper>⟧.pending keeper) }
+    ensures created { IfOk result (λ keeper. F.created keeper.beside keeper.file) }
+    ensures place { IfOk result (λ keeper. keeper.place ≡ keeping.now.at) }
 {
     match FileKeeper::new(alloc, files, number, &keeping.at) {
         Ok(keeper) => Ok(keeper),
@@ -77,12 +79,14 @@ fn keeper_of<F: Files + Drop>(
 
 /// Tries whether the journal can be kept, before there is one: makes a file beside its place, and takes it
 /// away again.
-pub fn try_keeping<F: Files + Drop>(
+pub fn try_keeping<F: FilePlace + Drop>(
     alloc: Global,
     files: F,
     number: u32,
     keeping: &Keeping,
-) -> Result<(), Unkept> {
+) -> Result<(), Unkept>
+    ensures { OnOk result (IsTried F.created F.unnamed) }
+{
     let mut keeper = keeper_of(alloc, files, number, keeping)?;
     keeper.give_up();
     Ok(())
@@ -97,7 +101,8 @@ pub fn keep_book<P: TextKeeper>(
 ) -> Result<(), KeepFault>
     requires pending { P.pending keeper.old }
     ensures kept { OnOk result (IsKept (P.draft keeper.old) (P.shown keeper.old) (P.shown keeper.new)
-        (kept_text keeping.now.root book.now.entries)) }
+        (P.placed keeper.new) (kept_text keeping.now.root book.now.entries)) }
+    ensures names { P.names keeper.new ≡ P.names keeper.old }
     ensures nothing { OnErr result (P.shown keeper.new ≡ P.shown keeper.old) }
     ensures left { IsLeft (P.cleared keeper.new) (P.draft keeper.old) (P.draft keeper.new)
         (kept_text keeping.now.root book.now.entries) result }
@@ -108,14 +113,21 @@ pub fn keep_book<P: TextKeeper>(
 
 /// Keeps the journal of this history in its file. A service that failed before anything happened in it,
 /// by its status, leaves what stands there.
-pub fn keep_service<F: Files + Drop>(
+///
+/// At `Ok` that is so, or the journal stands in the file whose name was asked for.
+pub fn keep_service<F: FilePlace + Drop>(
     alloc: Global,
     files: F,
     number: u32,
     keeping: &Keeping,
     status: u8,
     book: &Book,
-) -> Result<(), Unkept> {
+) -> Result<(), Unkept>
+    ensures unbegun { NeverBegan status book.now.entries → IsOk result }
+    ensures kept { OnOk result (NeverBegan status book.now.entries
+        ⊎ StandsAt F.Draft.contents F.created F.synced F.renamed keeping.now.at
+        (kept_text keeping.now.root book.now.entries)) }
+{
     if status != 0 && book.entries().is_empty() {
         return Ok(());
     }

@@ -21,7 +21,7 @@ use std::thread::Threads;
 ///
 /// It is that of the one run, by [`ended`]; or something that isn't the run's was missing, before it or
 /// behind it, and the error stream says what. There is no other way to one. So a `main` that gives one
-/// can't end with a status of its own.
+/// ends with the run's status, or with 4 or 6 where it has said that something beside the run was missing.
 #[derive(Drop)]
 pub struct ProgramStatus {
     number: u8,

@@ -3,4 +3,4 @@ use Rattle.cm_gate.proofs.Looking.{finds_file}
 use Rattle.cm_gate.proofs.folder.find_file.Goals as goal
 
 pub returns-in-Ok-Some-clause-finds : goal.returns-in-Ok-Some-clause-finds
-returns-in-Ok-Some-clause-finds g c = finds_file _ _ _ _ _ c.args.what.now c.find_at.result c.find_at.ensures.finds (search rules)
+returns-in-Ok-Some-clause-finds g c = finds_file _ _ _ _ _ _ c.args.what.now c.find_at.result c.find_at.ensures.finds (search rules)

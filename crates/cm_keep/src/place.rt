@@ -1,0 +1,114 @@
+//! Where a file is written under one name and then gets another one.
+
+ghost use Rattle.std.specs.Prelude.{IfOk};
+
+use std::fs::{OpenFile, OpenOptions};
+use std::io::{Error, ErrorKind, Write};
+use std::rt::Files;
+use std::{fs, io};
+
+/// Where files have names.
+///
+/// Each system of files is such a place, which says nothing of what its files are called.
+pub trait FilePlace {
+    ghost use Rattle.std.specs.Prelude.{ℕ, List};
+
+    /// A file that is written.
+    type Draft: Write + Drop;
+
+    /// A new file has this name, and nothing was written into it yet.
+    ghost created: { List ℕ → Self.Draft → Type 0 };
+
+    /// What was written into a file has reached the disk.
+    ghost synced: { Self.Draft → Type 0 };
+
+    /// What had the first of two names got the second one, in the place of what had that.
+    ghost renamed: { List ℕ → List ℕ → Type 0 };
+
+    /// It was asked for that nothing has this name.
+    ghost unnamed: { List ℕ → Type 0 };
+
+    /// Refuses a name that no file can get: an empty one, and that of a folder or of a thing that is no
+    /// regular file.
+    fn check(&self, name: &str) -> io::Result<()>;
+
+    /// Makes a new file of this name. One that is left there is taken away before.
+    fn create(&self, name: &str) -> io::Result<Self::Draft>
+        ensures { IfOk result (λ file. created name.now file) };
+
+    /// Has what was written into a file reach the disk.
+    fn sync(&self, file: &Self::Draft) -> io::Result<()>
+        ensures { IfOk result (λ _. synced file.now) };
+
+    /// Gives what has the first name the second one.
+    fn rename(&self, from: &str, to: &str) -> io::Result<()>
+        ensures { IfOk result (λ _. renamed from.now to.now) };
+
+    /// Takes away what has this name, where that is possible.
+    fn remove(&self, name: &str)
+        ensures { unnamed name.now };
+}
+
+impl<F: Files> FilePlace for F {
+    ghost use Rattle.std.specs.Prelude.{⊤};
+
+    /// A file of the file system.
+    type Draft = F::File;
+
+    ghost created = { λ _ _. ⊤ };
+
+    ghost synced = { λ _. ⊤ };
+
+    ghost renamed = { λ _ _. ⊤ };
+
+    ghost unnamed = { λ _. ⊤ };
+
+    /// Looks at what stands at the path.
+    fn check(&self, name: &str) -> io::Result<()> {
+        if name.is_empty() {
+            return Err(Error::new(ErrorKind::InvalidInput, "no file is named"));
+        }
+        if name.ends_with("/") {
+            return Err(Error::from(ErrorKind::IsADirectory));
+        }
+        match fs::metadata(self, name) {
+            Ok(found) if found.is_file() => Ok(()),
+            Ok(found) if found.is_dir() => Err(Error::from(ErrorKind::IsADirectory)),
+            Ok(_) => Err(Error::new(ErrorKind::InvalidInput, "not a regular file")),
+            Err(error) if error.kind() == ErrorKind::NotFound => Ok(()),
+            Err(error) => Err(error),
+        }
+    }
+
+    /// Opens a new file at the path. A file that is left of a process which was killed is taken away
+    /// before.
+    fn create(&self, name: &str) -> io::Result<F::File> {
+        match fs::remove_file(self, name) {
+            Ok(()) => {}
+            Err(error) if error.kind() == ErrorKind::NotFound => {}
+            Err(error) => return Err(error),
+        }
+        OpenOptions::new()
+            .write(true)
+            .create_new(true)
+            .open(self, name)
+    }
+
+    /// Syncs the file.
+    fn sync(&self, file: &F::File) -> io::Result<()> {
+        file.sync_all()
+    }
+
+    /// Renames a file of the file system.
+    fn rename(&self, from: &str, to: &str) -> io::Result<()> {
+        fs::rename(self, from, to)
+    }
+
+    /// Removes a file of the file system. What the system says to that isn't told.
+    fn remove(&self, name: &str) {
+        match fs::remove_file(self, name) {
+            Ok(()) => {}
+            Err(_) => {}
+        }
+    }
+}
