@@ -19,8 +19,8 @@ use cm_world::View;
 use std::alloc::Global;
 use std::collections::BTreeSet;
 
-/// Whether a child is free and there is something to be shut at or below it. One that is free and all
-/// shut is cleared, if another waits for it.
+/// Whether a child is free and may have something to be shut at or below it: no clause says that there
+/// is. One that is free and all shut is cleared, if another waits for it.
 pub(crate) fn is_open<V: View>(
     alloc: Global,
     view: &V,
@@ -79,7 +79,8 @@ fn is_cleared<V: View>(
 ) -> Result<bool, Memory>
     requires sound { IsSound (V.rows view.now) (V.next_inc view.now) }
     requires known { KnowsDependents (V.rows view.now) parent known.old }
-    ensures { OnOk result (KnowsDependents (V.rows view.now) parent known.new) }
+    ensures known { OnOk result (KnowsDependents (V.rows view.now) parent known.new) }
+    ensures told { IfOk result (λ is. IsTrue is → IsTrue (is_in_set known.new.cleared node)) }
 {
     if known.cleared.contains(&node) {
         return Ok(true);

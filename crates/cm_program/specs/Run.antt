@@ -96,13 +96,13 @@ ScriptStops ReadFault left = Unit {0}
 ScriptStops Memory left = Unit {0}
 ScriptStops (Refused fault) left = OfSome (λ bytes. IsScriptRefusal bytes fault) left
 
--- the status of a script that is refused: 7, or 3 and 6 where the source failed or memory ran out
--- before
+-- a status that the program may end with where it refuses a script: 7, 3 or 6. When each of them comes
+-- stands in other parts of the promise
 abbrev pub IsRefusalStatus : ℕ → Type 0
 IsRefusalStatus status = (status ≡ 7) ⊎ ((status ≡ 3) ⊎ (status ≡ 6))
 
--- the status of a script that was run: 0 where all was written, 4 where the output failed, 6 where
--- memory ran out
+-- a status that a script that was run may end with: 0, 4 or 6. When each of them comes stands in other
+-- parts of the promise
 abbrev pub IsScriptRun : ℕ → Type 0
 IsScriptRun status = (status ≡ 0) ⊎ ((status ≡ 4) ⊎ (status ≡ 6))
 
@@ -110,8 +110,8 @@ IsScriptRun status = (status ≡ 0) ⊎ ((status ≡ 4) ⊎ (status ≡ 6))
 abbrev pub IsScriptStatus : ℕ → Type 0
 IsScriptStatus status = IsScriptRun status ⊎ ((status ≡ 3) ⊎ (status ≡ 7))
 
--- a status that `serve` may end with: 0 where as many links came as were asked for or none comes, 5
--- where the door failed, 6 where memory ran out
+-- a status that `serve` may end with: 0, 5 or 6. When each of them comes stands in other parts of the
+-- promise
 abbrev pub IsServeStatus : ℕ → Type 0
 IsServeStatus status = (status ≡ 0) ⊎ ((status ≡ 5) ⊎ (status ≡ 6))
 
