@@ -1,7 +1,7 @@
 //! Slots that came together.
 
-ghost use Rattle.std.specs.Prelude.{◌≡◌, ◌≤◌, ◌<◌, ◌+◌, ◌==◌, ◌++◌, suc, length, None, Some, MatchOption};
-ghost use Rattle.std.specs.Prelude.{IfSome, slice_get};
+ghost use Rattle.std.specs.Prelude.{◌≡◌, ◌≤◌, ◌<◌, ◌+◌, ◌==◌, ◌++◌, [], suc, length, None, Some, MatchOption};
+ghost use Rattle.std.specs.Prelude.{IfSome, if◌then◌else◌, slice_get};
 ghost use Rattle.std.specs.Option.{option_copied};
 ghost use Rattle.std.specs.Vec.{vec_capacity};
 ghost use Rattle.cm_world.specs.Edits.{edit_first, drop_first};
@@ -17,7 +17,11 @@ use crate::marks::MarkKind;
 use crate::slot::{ChildIndex, Slot};
 use std::mem::swap;
 
-/// The root, one row that was added, or the children that one resolve brought.
+/// The most slots that a block is made with room for, where a row is added.
+const MOST_JOINED: usize = 16;
+
+/// The root, the children that one resolve brought, or rows that were added one after the other: a block has
+/// room for sixteen of these, so that few blocks stand behind one that goes.
 #[derive(Drop)]
 pub struct RowBlock {
     /// The slots, by increasing incarnations.
@@ -345,7 +349,53 @@ pub fn swap_in(blocks: &mut Vec<RowBlock>, inc: u64, index: &mut Option<ChildInd
 
 // ---- slots that come and go
 
-/// Puts a block after the others, unless it has no slot.
+/// How many slots a block is made with room for, where a row is added behind these blocks: one where the last
+/// of them has room for it, and else twice as many as that has, but sixteen at most.
+pub fn block_room(blocks: &[RowBlock]) -> usize {
+    let count = blocks.len();
+    if count == 0 {
+        return 1;
+    }
+    let slots = &blocks[count - 1].slots;
+    let held = slots.len();
+    if held < slots.capacity() {
+        return 1;
+    }
+    held.clamp(1, MOST_JOINED / 2) * 2
+}
+
+/// Moves the slots behind those of the block, where that takes no memory, and tells whether.
+fn join(block: &mut RowBlock, slots: &mut Vec<Slot>) -> bool
+    ensures block { block.new.slots.items
+        ≡ (if result then block.old.slots.items ++ slots.old.items else block.old.slots.items) }
+    ensures left { slots.new.items ≡ (if result then [] else slots.old.items) }
+{
+    let room = block.slots.capacity() - block.slots.len();
+    if room < slots.len() {
+        return false;
+    }
+    block.slots.append(slots).is_ok()
+}
+
+/// Moves the slots behind those of the last block, where that takes no memory, and tells whether.
+fn join_last(blocks: &mut Vec<RowBlock>, slots: &mut Vec<Slot>) -> bool
+    requires filled { Filled slots_in blocks.old.items }
+    ensures slots { flat blocks.new.items
+        ≡ (if result then flat blocks.old.items ++ slots.old.items else flat blocks.old.items) }
+    ensures left { slots.new.items ≡ (if result then [] else slots.old.items) }
+    ensures filled { Filled slots_in blocks.new.items }
+    ensures len { length blocks.new.items ≡ length blocks.old.items }
+    ensures capacity { vec_capacity blocks.new ≡ vec_capacity blocks.old }
+{
+    let count = blocks.len();
+    if count == 0 {
+        return false;
+    }
+    join(&mut blocks[count - 1], slots)
+}
+
+/// Puts slots after the others: into the last block where that has room for them, and else as a block of
+/// their own, unless there is none.
 pub fn push_block(blocks: &mut Vec<RowBlock>, slots: Vec<Slot>)
     requires room { length blocks.old.items < vec_capacity blocks.old }
     requires filled { Filled slots_in blocks.old.items }
@@ -354,6 +404,11 @@ pub fn push_block(blocks: &mut Vec<RowBlock>, slots: Vec<Slot>)
     ensures len { length blocks.new.items ≤ length blocks.old.items + 1 }
     ensures capacity { vec_capacity blocks.new ≡ vec_capacity blocks.old }
 {
+    let mut slots = slots;
+    let joined = join_last(blocks, &mut slots);
+    if joined {
+        return;
+    }
     let count = slots.len();
     if count == 0 {
         return;

@@ -16,7 +16,7 @@ use crate::marks::MarksAbove;
 use crate::ordered::OrderedRow;
 use cm_names::{ChildName, Memory, Moniker};
 use std::alloc::Global;
-use std::collections::BTreeMap;
+use std::collections::{BTreeMap, VecDeque};
 
 /// The index of the children of a row. Their incarnations are told by how far they are above a
 /// base.
@@ -24,8 +24,9 @@ use std::collections::BTreeMap;
 pub struct ChildIndex {
     /// No child has a lower incarnation.
     pub base: u64,
-    /// The children, by increasing incarnations, those that are being destroyed too.
-    pub kids: Vec<u64>,
+    /// The children, by increasing incarnations, those that are being destroyed too. Where one goes, the
+    /// shorter side moves: so children that go in the order in which they came, or last first, move none.
+    pub kids: VecDeque<u64>,
     /// Those that aren't being destroyed, by their names.
     pub names: BTreeMap<ChildName, u64>,
 }
@@ -62,7 +63,7 @@ impl ChildIndex {
     {
         ChildIndex {
             base: 0,
-            kids: Vec::new(alloc),
+            kids: VecDeque::new(alloc),
             names: BTreeMap::new(alloc),
         }
     }
@@ -100,7 +101,7 @@ impl ChildIndex {
             return self.kid_at(0);
         }
         let above = inc - self.base;
-        self.kid_at(kids_upto(self.kids.as_slice(), above))
+        self.kid_at(kids_upto(&self.kids, above))
     }
 
     /// The last child.
@@ -140,7 +141,7 @@ impl ChildIndex {
     {
         self.kids.reserve(1)?;
         self.names.insert(name, above)?;
-        self.kids.push_reserved(above);
+        self.kids.push_back_reserved(above);
         Ok(())
     }
 
@@ -169,7 +170,7 @@ impl ChildIndex {
         ensures kids { self.new.kids.items ≡ drop_first (λ k. k == above) self.old.kids.items }
         ensures names { self.new.names ≡ self.old.names }
     {
-        let count = kids_upto(self.kids.as_slice(), above);
+        let count = kids_upto(&self.kids, above);
         if count == 0 {
             return;
         }
@@ -215,9 +216,9 @@ pub fn last_in(index: &Option<ChildIndex>) -> Option<u64>
 
 /// How many of these increasing numbers are at most the given one, where it is one of them, and each number
 /// from the first one up to it is there. `None` says nothing.
-fn dense_upto(kids: &[u64], above: u64) -> Option<usize>
-    requires { Increasing (λ k. k) kids.now }
-    ensures { IfSome result (λ count. IsPlace (λ k. k) alone kids.now above count) }
+fn dense_upto(kids: &VecDeque<u64>, above: u64) -> Option<usize>
+    requires { Increasing (λ k. k) kids.now.items }
+    ensures { IfSome result (λ count. IsPlace (λ k. k) alone kids.now.items above count) }
 {
     if kids.is_empty() {
         return None;
@@ -238,9 +239,9 @@ fn dense_upto(kids: &[u64], above: u64) -> Option<usize>
 }
 
 /// How many of these increasing numbers are at most the given one.
-fn kids_upto(kids: &[u64], above: u64) -> usize
-    requires { Increasing (λ k. k) kids.now }
-    ensures { IsPlace (λ k. k) alone kids.now above result }
+fn kids_upto(kids: &VecDeque<u64>, above: u64) -> usize
+    requires { Increasing (λ k. k) kids.now.items }
+    ensures { IsPlace (λ k. k) alone kids.now.items above result }
 {
     if let Some(count) = dense_upto(kids, above) {
         return count;

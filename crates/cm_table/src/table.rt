@@ -25,7 +25,7 @@ ghost use Rattle.cm_table.specs.Numbering.{bare_slot};
 ghost use Rattle.cm_table.specs.Leaf.{IsWithin, IsLeaf, IsChildOf, Continues, HaveSameOthers};
 ghost use Rattle.cm_table.specs.Refusal.{RefusesRow};
 
-use crate::block::{RowBlock, change_in, push_block, remove_in, slot_in, swap_in};
+use crate::block::{RowBlock, block_room, change_in, push_block, remove_in, slot_in, swap_in};
 use crate::change::Change;
 use crate::links::{link, parent_in, unlink};
 use crate::marking::mark_below;
@@ -102,7 +102,7 @@ impl Table {
     {
         let mut blocks = Vec::new(alloc);
         let moniker = Some(Moniker::root(alloc));
-        let slots = slots_of(alloc, root(alloc, url), MarksAbove::none(), moniker)?;
+        let slots = slots_of(alloc, 1, root(alloc, url), MarksAbove::none(), moniker)?;
         blocks.push(RowBlock { slots })?;
         Ok(Table {
             blocks,
@@ -507,9 +507,11 @@ impl Table {
     }
 }
 
-/// The slots of one row, which has no index, with these marks and this moniker.
+/// The slots of one row, which has no index, with these marks and this moniker. There is room for so many
+/// slots.
 fn slots_of(
     alloc: Global,
+    room: usize,
     row: Row,
     marks: MarksAbove,
     moniker: Option<Moniker>,
@@ -517,7 +519,7 @@ fn slots_of(
     requires { row.decl ≡ None }
     ensures { IfOk result (λ made. made.items ≡ bare_slot row marks moniker ∷ []) }
 {
-    let mut slots = Vec::new(alloc);
+    let mut slots = Vec::with_capacity(alloc, room)?;
     let row = OrderedRow::new(row);
     slots.push(Slot {
         row,
@@ -529,6 +531,7 @@ fn slots_of(
 }
 
 /// The slots of one row with these marks and this moniker, with room for one block more than the spare ones.
+/// They have room for others that are added behind the row, where the last block has none.
 fn room_for(
     alloc: Global,
     blocks: &mut Vec<RowBlock>,
@@ -543,7 +546,7 @@ fn room_for(
     ensures room { OnOk result (length blocks.new.items + spare + 1 ≤ vec_capacity blocks.new) }
     ensures later { vec_capacity blocks.old ≤ vec_capacity blocks.new }
 {
-    let slots = slots_of(alloc, row, marks, moniker)?;
+    let slots = slots_of(alloc, block_room(blocks.as_slice()), row, marks, moniker)?;
     blocks.reserve(spare as usize + 1)?;
     Ok(slots)
 }

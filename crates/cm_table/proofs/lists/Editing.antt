@@ -1,6 +1,6 @@
 -- Items that are changed, or taken away, at the place that was found by binary search.
-use Rattle.std.proofs.Common.{◌≡◌, ℕ, zero, suc, ◌<◌, ◌≤◌, List, [], ◌∷◌, ◌++◌, length, Bool, true, false, cond, ◌==◌, true≢false, Option, Some, None, is_some, refl, sym, ap, ◌∙◌, subst, arith, get_or, set, zero-lt-suc, le_of_suc-le-suc}
-use Rattle.std.specs.Prelude.{remove}
+use Rattle.std.proofs.Common.{◌≡◌, ℕ, zero, suc, ◌<◌, ◌≤◌, List, [], ◌∷◌, ◌++◌, length, Bool, true, false, cond, ◌==◌, true≢false, Option, Some, None, is_some, refl, sym, ap, ◌∙◌, subst, arith, get_or, set, zero-lt-suc, le_of_suc-le-suc, append_assoc, append-nil, length-append}
+use Rattle.std.specs.Prelude.{remove, OnSome}
 use Rattle.std.specs.List.{flat_map}
 use Rattle.std.specs.Cmp.{unsigned_Decides}
 use Rattle.cm_world.specs.Edits.{edit_first, drop_first}
@@ -135,6 +135,38 @@ module _ {X Y : Type 0} (f : X → List Y) where
   flat-empty (z ∷ zs) zero d lt empty = ap (λ l. l ++ flat_map f zs) (sym empty)
   flat-empty (z ∷ zs) (suc k) d lt empty = ap (λ l. f z ++ l) (flat-empty zs k d (le_of_suc-le-suc lt) empty)
 
+-- ---- items that join the last part
+
+module _ {X Y : Type 0} (f : X → List Y) where
+  same_flat : (bs : List X) (k : ℕ) (b c : X) → b ≡ get_or bs k b → f c ≡ f b → flat_map f (set bs k c) ≡ flat_map f bs
+  same_flat [] k b c is e = refl
+  same_flat (z ∷ zs) zero b c is e = ap (λ l. l ++ flat_map f zs) (e ∙ ap f is)
+  same_flat (z ∷ zs) (suc k) b c is e = ap (λ l. f z ++ l) (same_flat zs k b c is e)
+
+  longer_flat : (bs : List X) (k : ℕ) (b c : X) (more : List Y) → suc k ≡ length bs → b ≡ get_or bs k b → f c ≡ f b ++ more → flat_map f (set bs k c) ≡ flat_map f bs ++ more
+  longer_flat [] k b c more last is e = absurd (omega arith)
+  longer_flat (z ∷ []) zero b c more last is e =
+      append-nil (f c) ∙ e ∙ ap (λ l. l ++ more) (ap f is ∙ sym (append-nil (f z)))
+  longer_flat (z ∷ w ∷ ws) zero b c more last is e = absurd (omega arith)
+  longer_flat (z ∷ zs) (suc k) b c more last is e =
+      ap (λ l. f z ++ l) (longer_flat zs k b c more (omega arith) is e)
+      ∙ sym (append_assoc (f z) (flat_map f zs) more)
+
+  -- either they stand behind those of the last part, or that is as it was
+  pub joined_flat : (t : Bool) (bs : List X) (k : ℕ) (b c : X) (more : List Y) → suc k ≡ length bs → b ≡ get_or bs k b → f c ≡ cond t (f b ++ more) (f b) → flat_map f (set bs k c) ≡ cond t (flat_map f bs ++ more) (flat_map f bs)
+  joined_flat true bs k b c more last is e = longer_flat bs k b c more last is e
+  joined_flat false bs k b c more last is e = same_flat bs k b c is e
+
+  joined_long : (t : Bool) (xs more : List Y) → 0 < length xs → 0 < length (cond t (xs ++ more) xs)
+  joined_long true xs more some = omega (arith, some, length-append xs more)
+  joined_long false xs more some = some
+
+  -- in both cases no part is empty
+  pub joined_filled : (t : Bool) (bs : List X) (k : ℕ) (b c : X) (more : List Y) → suc k ≡ length bs → Filled f bs → b ≡ get_or bs k b → f c ≡ cond t (f b ++ more) (f b) → Filled f (set bs k c)
+  joined_filled t bs k b c more last filled is e =
+      let some : 0 < length (f b) = subst (λ z. 0 < length (f z)) (sym is) (part_filled f bs k b (omega arith) filled) in
+      filled_set f bs k c (subst (λ l. 0 < length l) (sym e) (joined_long t (f b) more some)) filled
+
 -- ---- what the code writes among items
 
 -- the item of the key is changed at its place
@@ -162,6 +194,10 @@ pub edited_filled : {X Y : Type 0} (f : X → List Y) (key : Y → ℕ) (i : ℕ
 edited_filled f key i g bs k b c lt filled is write =
     let some : 0 < length (f b) = subst (λ z. 0 < length (f z)) (sym is) (part_filled f bs k b lt filled) in
     filled_set f bs k c (subst (λ l. 0 < length l) (sym write) (edited_long key i g (f b) some)) filled
+
+-- what is so of what was found, where something was
+pub on_some : {A : Type 0} (o : Option A) (x : A) (P : Type 0) → o ≡ Some x → OnSome o P → P
+on_some o x P e h = subst (λ q. OnSome q P) e h
 
 pub some_long : {A : Type 0} (xs : List A) → false ≡ (length xs == 0) → 0 < length xs
 some_long [] e = absurd (true≢false (sym e))

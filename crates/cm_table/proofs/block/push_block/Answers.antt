@@ -7,4 +7,4 @@ use Rattle.cm_table.proofs.block.push_block.Goals as goal
 pub returns-clause-filled : goal.returns-clause-filled
 returns-clause-filled c =
     subst (Filled slots_in) (sym c.push_reserved.ensures.items)
-    (filled_push slots_in c.args.blocks.now.items (record { slots = c.args.slots }) (omega arith) c.requires.filled)
+    (filled_push slots_in c.join_last-joined.new.blocks.items (record { slots = c.join_last-joined.new.slots }) (omega arith) c.join_last-joined.ensures.filled)

@@ -1,6 +1,5 @@
-use Rattle.std.proofs.Common.{ℕ, ◌+◌, ◌-◌, ◌≤◌, ◌∙◌, sym, ap, subst, arith}
+use Rattle.std.proofs.Common.{ℕ, ◌+◌, ◌-◌, ◌≤◌, ◌∙◌, sym, ap, arith}
 use Rattle.std.specs.Prelude.{option_map}
-use Rattle.cm_table.specs.Keys.{IsPlace, alone}
 use Rattle.cm_table.proofs.lists.Behind.{behind_item}
 use Rattle.cm_table.proofs.indexes.Naming.{all_behind, behind_above, nth-map}
 use Rattle.cm_table.proofs.slot.ChildIndex.kid_behind.Goals as goal
@@ -12,7 +11,6 @@ pub returns : goal.returns
 returns c =
     let x = c.args.self.now in
     let le : x.base ≤ c.args.inc = omega (arith, c.if-inc-self.false) in
-    let place = subst (λ l. IsPlace (λ (k : ℕ). k) alone l (c.args.inc - x.base) c.kids_upto.result) c.as_slice.ensures.value c.kids_upto.ensures in
     c.kid_at-2.ensures ∙ nth-map (λ k. x.base + k) x.kids.items c.kids_upto.result
-    ∙ ap (option_map (λ k. x.base + k)) (sym (behind_item (λ (k : ℕ). k) x.kids.items (c.args.inc - x.base) c.kids_upto.result place))
+    ∙ ap (option_map (λ k. x.base + k)) (sym (behind_item (λ (k : ℕ). k) x.kids.items (c.args.inc - x.base) c.kids_upto.result c.kids_upto.ensures))
     ∙ sym (behind_above x.base c.args.inc x.kids.items le)
