@@ -1,5 +1,7 @@
 -- Plain texts: their lexemes, their tokens, and what the loops have read.
-use Rattle.std.proofs.Common.{◌≡◌, ℕ, ◌-◌, ◌<◌, ◌≤◌, List, [], ◌∷◌, ◌++◌, length, take, drop}
+use Rattle.std.proofs.Common.{◌≡◌, ℕ, zero, suc, ◌+◌, ◌-◌, ◌<◌, ◌≤◌, List, [], ◌∷◌, ◌++◌, length, take, drop, get_or}
+use Rattle.std.specs.Str.{IsUtf8, IsCharBoundary}
+use Rattle.std.proofs.lemmas.Str.{IsCharBoundary-after_ascii}
 use Rattle.std.proofs.Common.{Bool, true, false, cond, ◌||◌, ◌==◌, nat_lt, Some, String, Vec, BTreeMap, Global}
 use Rattle.std.proofs.Common.{string_bytes, string_cmp, take_while, refl, sym, ap, ap₂, ◌∙◌, subst, arith, rules}
 use Rattle.std.proofs.lemmas.Bool.{and_parts, or_parts, not-true, eqb-true, eqb-false, ltb-false}
@@ -59,22 +61,55 @@ pub first_of : (c : ℕ) (t : List ℕ) → begins c t ≡ true → t ≡ c ∷ 
 first_of c [] h = absurd (cc)
 first_of c (x ∷ xs) h = ap₂ (λ a b. a ∷ b) (eqb-true x c h) (sym (unslice 1 (x ∷ xs)))
 
-pub some_first : (c : ℕ) (t : List ℕ) → begins c t ≡ true → 1 ≤ length t
-some_first c [] h = absurd (cc)
-some_first c (x ∷ xs) h = omega arith
+pub space_passed : (t rest : List ℕ) → begins_with is_space t ≡ true → rest ≡ drop 1 t
+    → (lex between rest ≡ lex between t) × (length rest < length t)
+space_passed [] rest h e = absurd (cc)
+space_passed (x ∷ xs) rest h e =
+    let same = ap length e in (ap (lex between) e ∙ sym (at_space x xs h), omega arith)
 
-pub some_space : (t : List ℕ) → begins_with is_space t ≡ true → 1 ≤ length t
-some_space [] h = absurd (cc)
-some_space (x ∷ xs) h = omega arith
+pub space_cut : (t : List ℕ) → IsUtf8 t → begins_with is_space t ≡ true → IsCharBoundary t 1
+space_cut [] u h = absurd (cc)
+space_cut (x ∷ xs) u h =
+    let is : is_space x ≡ true = h in
+    let small : x < 128 = grind (arith, rules) in
+    IsCharBoundary-after_ascii (x ∷ xs) 0 u (omega arith) small
 
-pub space_passed : (t : List ℕ) → begins_with is_space t ≡ true
-    → lex between (take (length t - 1) (drop 1 t)) ≡ lex between t
-space_passed [] h = absurd (cc)
-space_passed (x ∷ xs) h = ap (lex between) (unslice 1 (x ∷ xs)) ∙ sym (at_space x xs h)
+pub byte_cut : (c : ℕ) (t : List ℕ) → c < 128 → IsUtf8 t → begins c t ≡ true → IsCharBoundary t 1
+byte_cut c [] small u h = absurd (cc)
+byte_cut c (x ∷ xs) small u h =
+    let same = eqb-true x c h in
+    IsCharBoundary-after_ascii (x ∷ xs) 0 u (omega arith) (subst (λ b. b < 128) (sym same) small)
 
-pub mark_passed : (c : ℕ) (t : List ℕ) → class c ≡ operator → begins c t ≡ true
-    → lex between t ≡ operator_lexeme c ∷ lex between (take (length t - 1) (drop 1 t))
-mark_passed c t e h = ap (lex between) (first_of c t h) ∙ at_mark c _ e
+pub byte_behind : (c : ℕ) (t rest : List ℕ) → begins c t ≡ true → rest ≡ drop 1 t → t ≡ c ∷ rest
+byte_behind c [] rest h e = absurd (cc)
+byte_behind c (x ∷ xs) rest h e = ap₂ (λ a b. a ∷ b) (eqb-true x c h) (sym e)
+
+pub mark_passed : (c : ℕ) (t rest : List ℕ) → class c ≡ operator → t ≡ c ∷ rest
+    → lex between t ≡ operator_lexeme c ∷ lex between rest
+mark_passed c t rest e h = ap (lex between) h ∙ at_mark c rest e
+
+closes : (t : List ℕ) (n : ℕ) → begins 34 (drop n t) ≡ true
+    → (n < length t) × (get_or t n 0 ≡ 34) × (drop n t ≡ 34 ∷ drop (suc n) t)
+closes [] zero h = absurd (cc)
+closes [] (suc n) h = absurd (cc)
+closes (x ∷ xs) zero h = (omega arith, eqb-true x 34 h, ap (λ b. b ∷ xs) (eqb-true x 34 h))
+closes (x ∷ xs) (suc n) h =
+    let there = closes xs n h in
+    let within = there.0 in
+    (omega arith, there.1, there.2)
+
+-- the quote that closes a string stands behind its plain bytes
+pub closes_at : (bytes t closed : List ℕ) (n : ℕ) → bytes ≡ t → closed ≡ take (length bytes - n) (drop n bytes)
+    → begins 34 closed ≡ true → (n < length t) × (get_or t n 0 ≡ 34) × (drop n t ≡ 34 ∷ drop (suc n) t)
+closes_at bytes t closed n v c h =
+    closes t n (ap (λ l. begins 34 (drop n l)) (sym v) ∙ ap (begins 34) (sym (unslice n bytes) ∙ sym c) ∙ h)
+
+pub string_split : (t s rest : List ℕ) (n : ℕ) → drop n t ≡ 34 ∷ drop (suc n) t → s ≡ take n t
+    → rest ≡ drop (n + 1) t → t ≡ s ++ 34 ∷ rest
+string_split t s rest n q p r =
+    let next : suc n ≡ n + 1 = omega arith in
+    sym (take-append-drop n t)
+    ∙ ap₂ (λ a b. a ++ b) (sym p) (q ∙ ap (λ k. 34 ∷ drop k t) next ∙ ap (λ l. 34 ∷ l) (sym r))
 
 plain_escape : (s : List ℕ) → list_all is_plain s ≡ true → escape s ≡ s
 plain_escape [] h = refl
@@ -106,19 +141,13 @@ prefix_is_plain (x ∷ xs) =
     subst (λ l. list_all is_plain (take (length l) (x ∷ xs)) ≡ true) (sym (take_while-cons is_plain x xs))
     (prefix_by x xs (is_plain x) refl (prefix_is_plain xs))
 
--- a string up to its closing quote
-pub string_read : (inside s rest : List ℕ) (n : ℕ) → n ≡ length (take_while is_plain inside)
-    → s ≡ take n inside → drop n inside ≡ 34 ∷ rest
-    → lex between (34 ∷ inside) ≡ token (of_token.string s) ∷ lex between rest
-string_read inside s rest n len prefix behind =
-    let parts : inside ≡ take n inside ++ 34 ∷ rest =
-    sym (take-append-drop n inside) ∙ ap (λ l. take n inside ++ l) behind in
-    let all : list_all is_plain (take n inside) ≡ true =
-    ap (λ k. list_all is_plain (take k inside)) len ∙ prefix_is_plain inside in
-    ap (λ l. lex between (34 ∷ l)) parts ∙ at_string (take n inside) rest all
-    ∙ ap (λ l. token (of_token.string l) ∷ lex between rest) (sym prefix)
+-- what stands before the quote that closes a string is plain
+pub plain_before : (bytes t s : List ℕ) (n : ℕ) → bytes ≡ t → n ≡ length (take_while is_plain bytes) → s ≡ take n t
+    → list_all is_plain s ≡ true
+plain_before bytes t s n v len p =
+    ap (list_all is_plain) (p ∙ ap (take n) (sym v) ∙ ap (λ k. take k bytes) len) ∙ prefix_is_plain bytes
 
--- the same, by its bytes
+-- a string by its bytes, up to its closing quote
 pub parts_of_string : (opened inside closed rest : List ℕ) (n : ℕ) → begins 34 opened ≡ true
     → inside ≡ take (length opened - 1) (drop 1 opened) → n ≡ length (take_while is_plain inside)
     → closed ≡ take (length inside - n) (drop n inside) → begins 34 closed ≡ true
@@ -132,15 +161,13 @@ parts_of_string opened inside closed rest n h i len c k r =
       ap (λ k. list_all is_plain (take k inside)) len ∙ prefix_is_plain inside,
     )
 
-pub string_passed : (opened inside closed rest s : List ℕ) (n : ℕ) → begins 34 opened ≡ true
-    → inside ≡ take (length opened - 1) (drop 1 opened) → n ≡ length (take_while is_plain inside)
-    → closed ≡ take (length inside - n) (drop n inside) → begins 34 closed ≡ true
-    → rest ≡ take (length closed - 1) (drop 1 closed) → s ≡ take n inside
-    → lex between opened ≡ token (of_token.string s) ∷ lex between rest
-string_passed opened inside closed rest s n h i len c k r prefix =
-    ap (lex between) (first_of 34 opened h ∙ ap (λ l. 34 ∷ l) (sym i))
-    ∙ string_read inside s rest n len prefix
-    (sym (c ∙ unslice n inside) ∙ first_of 34 closed k ∙ ap (λ l. 34 ∷ l) (sym r))
+pub string_passed : (text opened inside rest plain : List ℕ) (s : String Global)
+    → lex between opened ≡ lex between text → opened ≡ 34 ∷ inside → inside ≡ plain ++ 34 ∷ rest
+    → list_all is_plain plain ≡ true → string_bytes s ≡ plain
+    → lex between text ≡ token (of_token.string (string_bytes s)) ∷ lex between rest
+string_passed text opened inside rest plain s same o i all made =
+    sym same ∙ ap (lex between) (o ∙ ap (λ l. 34 ∷ l) i) ∙ at_string plain rest all
+    ∙ ap (λ l. token (of_token.string l) ∷ lex between rest) (sym made)
 
 -- ---- tokens
 

@@ -5,7 +5,8 @@
 //! manifest that is plain itself, in the relaxed spelling, needs no JSON written for it.
 
 ghost use Rattle.std.specs.Prelude.{◌≡◌, ◌≤◌, ◌<◌, ◌∷◌, length, take_while, string_bytes, Some, IfSome};
-ghost use Rattle.std.specs.Prelude.{◌&&◌, Bool, IsTrue, false};
+ghost use Rattle.std.specs.Prelude.{◌&&◌, ◌++◌, Bool, IsTrue, true, false};
+ghost use Rattle.std.specs.List.{list_all};
 ghost use Rattle.json.specs.Lex.{class, operator, operator_lexeme, lex, between, token};
 ghost use Rattle.json.specs.Token.{string};
 ghost use Rattle.serde_json.specs.Read.{read as read_text};
@@ -49,32 +50,50 @@ fn begins_space(text: &[u8]) -> bool
     }
 }
 
+/// What stands after this byte of ASCII, where it is next.
+fn behind_byte(text: &str, byte: u8) -> Option<&str>
+    requires { byte < 128 }
+    ensures { IfSome result (λ rest. text.now ≡ byte ∷ rest.now) }
+{
+    if !is_next(text.as_bytes(), byte) {
+        return None;
+    }
+    Some(&text[1..])
+}
+
+/// What stands after a space that is next.
+fn behind_one_space(text: &str) -> Option<&str>
+    ensures lexed { IfSome result (λ rest. lex between rest.now ≡ lex between text.now) }
+    ensures shorter { IfSome result (λ rest. length rest.now < length text.now) }
+{
+    if !begins_space(text.as_bytes()) {
+        return None;
+    }
+    Some(&text[1..])
+}
+
 /// What stands after the spaces that come first.
-#[tactic(auto, using(crate::proofs::PlainLemmas::some_space, crate::proofs::PlainLemmas::space_passed))]
-fn behind_space(text: &[u8]) -> &[u8]
+fn behind_space(text: &str) -> &str
     ensures lexed { lex between result.now ≡ lex between text.now }
     ensures shorter { length result.now ≤ length text.now }
 {
     let mut left = text;
-    while begins_space(left) {
-        left = &left[1..];
+    while let Some(rest) = behind_one_space(left) {
+        left = rest;
     }
     left
 }
 
 /// What stands after a mark that is next.
-#[tactic(auto, using(crate::proofs::PlainLemmas::some_first, crate::proofs::PlainLemmas::mark_passed,))]
-fn behind_mark(text: &[u8], mark: u8) -> Option<&[u8]>
-    requires { class mark ≡ operator }
+#[tactic(auto, using(crate::proofs::PlainLemmas::mark_passed))]
+fn behind_mark(text: &str, mark: u8) -> Option<&str>
+    requires operates { class mark ≡ operator }
+    requires ascii { mark < 128 }
     ensures lexed { IfSome result
         (λ rest. lex between text.now ≡ operator_lexeme mark ∷ lex between rest.now) }
     ensures shorter { IfSome result (λ rest. length rest.now < length text.now) }
 {
-    let prefix = behind_space(text);
-    if !is_next(prefix, mark) {
-        return None;
-    }
-    Some(&prefix[1..])
+    behind_byte(behind_space(text), mark)
 }
 
 /// Whether the byte stands for itself in a string.
@@ -91,31 +110,34 @@ fn plain_len(text: &[u8]) -> usize
     text.iter().take_while(|byte| is_plain(**byte)).count()
 }
 
+/// What stands before the quote that closes a plain string, and after it.
+fn split_string(text: &str) -> Option<(&str, &str)>
+    ensures parts { IfSome result (λ parts. text.now ≡ parts.0.now ++ 34 ∷ parts.1.now) }
+    ensures plain { IfSome result (λ parts. list_all spec.is_plain parts.0.now ≡ true) }
+{
+    let bytes = text.as_bytes();
+    let len = plain_len(bytes);
+    if !is_next(&bytes[len..], b'"') {
+        return None;
+    }
+    Some((&text[..len], &text[len + 1..]))
+}
+
 /// The string that is next, if it is plain and memory allows, and what stands after it.
-#[tactic(auto, using(crate::proofs::PlainLemmas::some_first, crate::proofs::PlainLemmas::string_passed,))]
-fn read_string(alloc: Global, text: &[u8]) -> Option<(String, &[u8])>
+fn read_string(alloc: Global, text: &str) -> Option<(String, &str)>
     ensures lexed { IfSome result (λ read.
         lex between text.now ≡ token (string (string_bytes read.0)) ∷ lex between read.1.now) }
     ensures shorter { IfSome result (λ read. length read.1.now < length text.now) }
 {
-    let opened = behind_space(text);
-    if !is_next(opened, b'"') {
-        return None;
-    }
-    let inside = &opened[1..];
-    let len = plain_len(inside);
-    let closed = &inside[len..];
-    if !is_next(closed, b'"') {
-        return None;
-    }
-    let plain = std::str::from_utf8(&inside[..len]).ok()?;
+    let inside = behind_byte(behind_space(text), b'"')?;
+    let (plain, rest) = split_string(inside)?;
     let string = String::from_str(alloc, plain).ok()?;
-    Some((string, &closed[1..]))
+    Some((string, rest))
 }
 
 /// The value that is next, and what stands after it, unless there is more to it or memory runs out.
 #[cycle(read_value)]
-fn read_value(alloc: Global, text: &[u8], depth: usize) -> Option<(Value, &[u8])>
+fn read_value(alloc: Global, text: &str, depth: usize) -> Option<(Value, &str)>
     ensures value { IfSome result (λ read. HasValue depth text.now (view read.0) read.1.now) }
     ensures shorter { IfSome result (λ read. length read.1.now < length text.now) }
 {
@@ -138,10 +160,10 @@ fn read_value(alloc: Global, text: &[u8], depth: usize) -> Option<(Value, &[u8])
 #[cycle(read_value)]
 fn read_item<'a>(
     alloc: Global,
-    text: &'a [u8],
+    text: &'a str,
     depth: usize,
     found: &mut Vec<Value>,
-) -> Option<&'a [u8]>
+) -> Option<&'a str>
     ensures value { IfSome result
         (λ rest. AddsItem depth text.now found.old.items found.new.items rest.now) }
     ensures shorter { IfSome result (λ rest. length rest.now < length text.now) }
@@ -153,7 +175,7 @@ fn read_item<'a>(
 
 /// The items up to their closing bracket, and what stands after it.
 #[cycle(read_value)]
-fn read_items(alloc: Global, text: &[u8], depth: usize) -> Option<(Vec<Value>, &[u8])>
+fn read_items(alloc: Global, text: &str, depth: usize) -> Option<(Vec<Value>, &str)>
     ensures items { IfSome result
         (λ read. HasItems depth text.now (items_view read.0.items) read.1.now) }
     ensures shorter { IfSome result (λ read. length read.1.now < length text.now) }
@@ -174,10 +196,10 @@ fn read_items(alloc: Global, text: &[u8], depth: usize) -> Option<(Vec<Value>, &
 #[cycle(read_value)]
 fn read_member<'a>(
     alloc: Global,
-    text: &'a [u8],
+    text: &'a str,
     depth: usize,
     found: &mut Map<String, Value>,
-) -> Option<&'a [u8]>
+) -> Option<&'a str>
     ensures value { IfSome result (λ rest. AddsMember depth text.now
         (members_view found.old.entries) (members_view found.new.entries) rest.now) }
     ensures shorter { IfSome result (λ rest. length rest.now < length text.now) }
@@ -191,7 +213,7 @@ fn read_member<'a>(
 
 /// The members up to their closing brace, and what stands after it.
 #[cycle(read_value)]
-fn read_members(alloc: Global, text: &[u8], depth: usize) -> Option<(Map<String, Value>, &[u8])>
+fn read_members(alloc: Global, text: &str, depth: usize) -> Option<(Map<String, Value>, &str)>
     ensures members { IfSome result
         (λ read. HasMembers depth text.now (members_view read.0.entries) read.1.now) }
     ensures shorter { IfSome result (λ read. length read.1.now < length text.now) }
@@ -214,7 +236,7 @@ fn read_members(alloc: Global, text: &[u8], depth: usize) -> Option<(Map<String,
 pub fn read_plain(alloc: Global, text: &str) -> Option<Value>
     ensures { IfSome result (λ value. read_text text.now ≡ Some (view value)) }
 {
-    let (value, rest) = read_value(alloc, text.as_bytes(), MAX_DEPTH)?;
+    let (value, rest) = read_value(alloc, text, MAX_DEPTH)?;
     if !behind_space(rest).is_empty() {
         return None;
     }

@@ -1,6 +1,7 @@
 -- What a writer has written, and the JSON of the whole text.
-use Rattle.std.proofs.Common.{◌≡◌, ℕ, List, [], ◌∷◌, ◌++◌, Bool, true, false, ◌&&◌, Option, Some, None, option_map, refl, sym, ap, ◌∙◌, arith, rules}
+use Rattle.std.proofs.Common.{◌≡◌, ℕ, List, [], ◌∷◌, ◌++◌, Bool, true, false, not, ◌&&◌, ◌||◌, ◌==◌, Option, Some, None, option_map, refl, sym, ap, ◌∙◌, arith, rules}
 use Rattle.std.specs.List.{list_all, flat_map, join_with_byte}
+use Rattle.std.proofs.lemmas.Bool.{and_parts, or_parts, not-true}
 use Rattle.std.proofs.lemmas.List.{append-nil, append_assoc}
 use Rattle.std.proofs.lemmas.Grind.{flat_map-append}
 use Rattle.cm_text.specs.Bytes.{is_quote}
@@ -8,7 +9,7 @@ use Rattle.cm_text.specs.Token.{Token, quoted}
 use Rattle.cm_text.specs.Split.{is_char, is_token}
 use Rattle.cm_text.specs.Json.{in_quotes, token_json, is_mark_of, is_comma, is_colon, is_closing, is_needless, spelling, spellings, head_of, json_of_tokens}
 use Rattle.cm_text.specs.Scan.{token_of, within}
-use Rattle.cm_text.specs.Spelling.{spelling_behind_space, is_pending}
+use Rattle.cm_text.specs.Spelling.{spelling_behind_space, is_pending, is_same, chars_json}
 use Rattle.cm_text.specs.Writing.{json_behind, json_pending, pending_spelling}
 use Rattle.cm_text.specs.declared.token.Token.{Token as CodeToken}
 use Rattle.cm_text.proofs.ByteLemmas.{both_left}
@@ -23,6 +24,21 @@ pub quoted_json : (q : ℕ) (bs : List ℕ) → is_token (quoted q (within false
 quoted_json q bs h other =
     let double : q ≡ 34 = double_quote q (both_left (is_quote q) (list_all (is_char q) (within false bs)) h) other in
     rw double (ap (λ xs. 34 ∷ (xs ++ 34 ∷ [])) (sym (within_spells false bs)))
+
+-- ---- strings in single quotes
+
+same_json : (bs : List ℕ) → list_all is_same bs ≡ true → bs ≡ chars_json false bs
+same_json [] h = refl
+same_json (b ∷ bs) h =
+    let both = and_parts (is_same b) (list_all is_same bs) h in
+    let tests = or_parts (b == 34) (b == 92) (not-true _ both.0) in
+    rw (tests.1, tests.0) (ap (λ l. b ∷ l) (same_json bs both.1))
+
+-- bytes that stand for themselves are written as they are
+pub same_written : (old new bytes inside : List ℕ) → bytes ≡ inside → list_all is_same bytes ≡ true
+    → new ≡ old ++ inside → new ≡ old ++ chars_json false inside
+same_written old new bytes inside e h w =
+    w ∙ ap (λ l. old ++ l) (same_json inside (ap (list_all is_same) (sym e) ∙ h))
 
 -- ---- spaces between spellings
 

@@ -1,7 +1,7 @@
 -- Inside.
 -- The JSON of tokens as the writer puts it down, character by character.
 use Rattle.std.specs.Prelude.{ℕ, List, [], ◌∷◌, ◌++◌, Bool, true, false, ◌==◌, if◌then◌else◌, Option, Some}
-use Rattle.std.specs.Prelude.{None}
+use Rattle.std.specs.Prelude.{None, not, ◌||◌}
 use Rattle.std.specs.Char.{encode_utf8}
 use Rattle.std.specs.List.{list_all, flat_map}
 use Rattle.cm_text.specs.Token.{Token}
@@ -19,6 +19,10 @@ char_text false c = if c == 34 then 92 ∷ 34 ∷ [] else encode_utf8 c
 -- what the bytes between single quotes are in double quotes
 abbrev pub chars_json : Bool → List ℕ → List ℕ
 chars_json behind bs = flat_map char_json (within behind bs)
+
+-- whether a byte stands for itself between quotes of either kind
+abbrev pub is_same : ℕ → Bool
+is_same b = not ((b == 34) || (b == 92))
 
 -- whether no single backslash ends the bytes between single quotes
 abbrev pub are_chars : Bool → List ℕ → Bool

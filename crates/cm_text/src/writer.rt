@@ -9,6 +9,7 @@ ghost use Rattle.cm_text.specs.Json as spec;
 ghost use Rattle.cm_text.specs.Bytes as bytes_spec;
 ghost use Rattle.cm_text.specs.Scan.{token_of, within};
 ghost use Rattle.cm_text.specs.Spelling.{are_chars, char_text, chars_json, is_pending, spelling_behind_space};
+ghost use Rattle.cm_text.specs.Spelling.{is_same};
 
 use crate::bytes::{begins_key, continues_key};
 use crate::token::Token;
@@ -77,8 +78,9 @@ fn write_char(json: &mut String, c: char, taken: bool) -> Result<(), AllocError>
     json.push(c)
 }
 
-/// Writes what stands between single quotes as it is to stand between double quotes.
-fn write_chars(json: &mut String, inside: &str) -> Result<(), AllocError>
+/// Writes what stands between single quotes as it is to stand between double quotes, character by
+/// character.
+fn write_each_char(json: &mut String, inside: &str) -> Result<(), AllocError>
     requires { IsTrue (are_chars false inside.now) }
     ensures { OnOk result (string_bytes json.new ≡ string_bytes json.old ++ chars_json false inside.now) }
 {
@@ -92,6 +94,32 @@ fn write_chars(json: &mut String, inside: &str) -> Result<(), AllocError>
         }
     }
     Ok(())
+}
+
+/// Whether the byte stands for itself between single and between double quotes.
+fn is_same(byte: u8) -> bool
+    ensures { result ≡ is_same byte }
+{
+    !(byte == b'"' || byte == b'\\')
+}
+
+/// Whether each byte stands for itself between single and between double quotes.
+fn are_same(bytes: &[u8]) -> bool
+    ensures { result ≡ list_all is_same bytes.now }
+{
+    bytes.iter().all(|byte| is_same(*byte))
+}
+
+/// Writes what stands between single quotes as it is to stand between double quotes.
+fn write_chars(json: &mut String, inside: &str) -> Result<(), AllocError>
+    requires { IsTrue (are_chars false inside.now) }
+    ensures { OnOk result (string_bytes json.new ≡ string_bytes json.old ++ chars_json false inside.now) }
+{
+    if are_same(inside.as_bytes()) {
+        json.push_str(inside)?;
+        return Ok(());
+    }
+    write_each_char(json, inside)
 }
 
 /// Writes the JSON of a string, given its quote and what stands between its quotes.

@@ -1,7 +1,10 @@
-use Rattle.cm_text.proofs.found.CharLemmas.{passed_char}
+use Rattle.std.proofs.Common.{◌≡◌, ◌++◌, ◌∙◌, true, sym, string_bytes, rules}
+use Rattle.cm_text.proofs.JsonLemmas.{same_written}
 use Rattle.cm_text.proofs.writer.write_chars.Goals as goal
 
-pub loop-c-preserved : goal.loop-c-preserved
-loop-c-preserved c =
-    let done = passed_char _ _ _ _ _ _ _ c.in-Some.ensures.steps.0 c.else-c-eq92.either c.in_ok-write_char.ensures c.loop-c.invariant.left c.loop-c.invariant.written in
-    record { left = done.0; written = done.1 }
+pub returns-then-are_same : goal.returns-then-are_same
+returns-then-are_same c =
+    let all : c.are_same.result ≡ true = search rules in
+    let written : string_bytes c.push_str.new.self ≡ string_bytes c.args.json.now ++ c.args.inside.now = search rules in
+    same_written (string_bytes c.args.json.now) (string_bytes c.push_str.new.self) c.as_bytes.result.now
+    c.args.inside.now c.as_bytes.ensures.value (sym c.are_same.ensures ∙ all) written

@@ -1,6 +1,6 @@
 use Rattle.std.proofs.Common.{◌≡◌, ◌++◌, false, IsTrue, string_bytes}
 use Rattle.cm_text.specs.Spelling.{are_chars, chars_json}
-use Rattle.cm_text.proofs.writer.write_chars.Given as goal
+use Rattle.cm_text.proofs.writer.write_each_char.Given as goal
 
 abbrev pub invariant-loop-c : goal.invariant-loop-c
 invariant-loop-c l = record {
