@@ -22,7 +22,7 @@ pub fn route_in(went: Result<Reply, Refusal>) -> Result<Shared<Route>, Refusal>
 }
 
 /// The instances that were surveyed, or why none were.
-pub fn rows_in(went: Result<Reply, Refusal>) -> Result<List<SurveyRow>, Refusal>
+pub fn rows_in(went: Result<Reply, Refusal>) -> Result<Shared<List<SurveyRow>>, Refusal>
     ensures { result ≡ surveyed_by went }
 {
     match went {

@@ -107,7 +107,7 @@ fn push_answer(text: &mut String, command: &Command, answer: &Answer) -> Result<
         Answer::Shut => push_of_target(text, "shut", command),
         Answer::Created(inc) => push_created(text, command, *inc),
         Answer::Destroyed => push_of_target(text, "destroyed", command),
-        Answer::Children(kids) => push_children(text, command, kids.as_slice()),
+        Answer::Children(kids) => push_children(text, command, kids.get().as_slice()),
         Answer::Opened(route) => {
             push(text, "opened ")?;
             push_place(text, route.get())
@@ -117,7 +117,7 @@ fn push_answer(text: &mut String, command: &Command, answer: &Answer) -> Result<
             push_route(text, route.get())
         }
         Answer::Shown(look) => push_shown(text, command, look),
-        Answer::Surveyed(rows) => push_listing(text, "survey", command, rows.as_slice()),
+        Answer::Surveyed(rows) => push_listing(text, "survey", command, rows.get().as_slice()),
         Answer::Doctored(lines) => push_listing(text, "doctor", command, lines.as_slice()),
         Answer::Left(was_on) => {
             push_of_target(text, "exited", command)?;

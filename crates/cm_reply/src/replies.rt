@@ -106,12 +106,12 @@ fn push_other(text: &mut String, reply: &Reply) -> Result<(), Memory>
             push(text, "opened ")?;
             push_route(text, route.get())
         }
-        Reply::Listed(kids) => push_listed(text, "listed", kids.as_slice()),
+        Reply::Listed(kids) => push_listed(text, "listed", kids.get().as_slice()),
         Reply::Shown(look) => {
             push(text, "shown ")?;
             push_look(text, look)
         }
-        Reply::Surveyed(rows) => push_listed(text, "surveyed", rows.as_slice()),
+        Reply::Surveyed(rows) => push_listed(text, "surveyed", rows.get().as_slice()),
         Reply::Left(_) => push(text, "left"),
         Reply::Tailed(count) => push_number(text, "tailed", *count),
         Reply::Reaping(incs) => {

@@ -7,6 +7,7 @@ use Rattle.cm_laws.specs.Tasks.{IsNumbered, IsTasked}
 use Rattle.cm_cache.specs.Beside.{IsBeside}
 use Rattle.cm_order.specs.Plans.{IsPlan}
 use Rattle.cm_steps.specs.Tasks.{is_open_resolve}
+use Rattle.cm_steps.specs.LastTold.{IsToldNow}
 use Rattle.cm_steps.specs.declared.realm.Realm.TheInside.{Inside}
 
 -- the history that a realm's fields keep
@@ -31,8 +32,8 @@ pub record LeavesTree (s : Story) (w : World) : Type 0 where
   pub world : world_of s ≡ w
 
 -- what always holds of a realm's fields: they are the tree that its history leaves; memory is kept for
--- each open resolve and for the entries that are owed; the answers that are kept, and what is known of
--- ways down, are right for this tree
+-- each open resolve and for the entries that are owed; the answers that are kept, what is known of ways
+-- down, and what was told last of instances, are right for this tree
 pub record IsRealmInvariant (a : Inside) : Type 0 where
   pub stands : LeavesTree (story_of a) (world_in a)
   pub owes : a.records.book.reserved ≡ owed a.acts.items a.joins.items
@@ -45,3 +46,4 @@ pub record IsRealmInvariant (a : Inside) : Type 0 where
   pub tasks : IsTasked a.table.rows a.acts.items
   pub beside : IsBeside a.frame a.records.book.entries a.records.keeper
   pub planned : IsPlan a.table.rows a.records.plan
+  pub told : IsToldNow a.table.rows a.records.last

@@ -1,5 +1,6 @@
 pub mod Tasks
 pub mod Planned
+pub mod LastTold
 pub mod Inside
 pub mod Rooms
 pub mod Steps

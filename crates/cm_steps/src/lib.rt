@@ -24,6 +24,7 @@ mod records;
 mod replies;
 mod rooms;
 mod standing;
+mod told;
 
 pub use ending::Ending;
 pub use laws::enabled_by_both;

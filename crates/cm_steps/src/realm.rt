@@ -30,11 +30,10 @@ use crate::nostep::NoStep;
 use crate::records::Recorded;
 use crate::replies::beginning::{BeginAnswer, begin_answer};
 use crate::replies::finding::found;
-use crate::replies::listing::listed;
 use crate::replies::opening::open_exposed_reply;
 use crate::replies::showing::{ExitAnswer, exit_answer, shown, tailed};
-use crate::replies::surveying::surveyed;
 use crate::rooms::{add_join, copy_in_room, make_room, next_action};
+use crate::told::{LastTold, list_told, survey_told};
 use cm_book::Book;
 use cm_cache::Keeper;
 use cm_laws::trees_stay_sound;
@@ -131,6 +130,7 @@ impl Realm {
                 book: Book::new(alloc, limits.entries),
                 keeper,
                 plan: DescentPlan::new(alloc),
+                last: LastTold::new(),
             },
         })
     }
@@ -172,6 +172,7 @@ impl Realm {
             book,
             keeper: _,
             plan: _,
+            last: _,
         } = records;
         book
     }
@@ -209,7 +210,7 @@ impl Realm {
     {
         match copy_in_room(&mut self.records.book, &reply) {
             Ok(kept) => {
-                self.records.put_down(caller, event, kept, false);
+                self.records.put_quiet(caller, event, kept);
                 Ok(reply)
             }
             Err(fault) => {
@@ -330,7 +331,7 @@ impl Realm {
         ensures refused { IfErr result (RefusesQuiet self.old) }
         ensures err { OnErr result (self.new ≡ self.old) }
     {
-        let reply = listed(alloc, &self.table, inc, &coll)?;
+        let reply = list_told(alloc, &self.table, &mut self.records.last, inc, &coll)?;
         self.tell(caller, Event::Listing(inc, coll), reply)
     }
 
@@ -347,7 +348,7 @@ impl Realm {
         ensures refused { IfErr result (RefusesQuiet self.old) }
         ensures err { OnErr result (self.new ≡ self.old) }
     {
-        let reply = surveyed(alloc, &self.table, inc)?;
+        let reply = survey_told(alloc, &self.table, &mut self.records.last, inc)?;
         self.tell(caller, Event::Survey(inc), reply)
     }
 

@@ -18,6 +18,7 @@ use Rattle.cm_names.proofs.rights.Rights.TheSendSync as rights
 use Rattle.cm_names.proofs.shared.Shared.TheSendSync as shared
 use Rattle.cm_names.proofs.text.Text.TheSendSync as text
 use Rattle.cm_names.specs.contracts.availability.Availability
+use Rattle.cm_names.specs.contracts.list.List
 use Rattle.cm_names.specs.contracts.name.Name
 use Rattle.cm_names.specs.contracts.path.CapPath
 use Rattle.cm_names.specs.contracts.rights.Rights
@@ -174,6 +175,37 @@ pub survey_row_send : IsSend SurveyRow.the_row
 survey_row_send = send.recorded_send (SurveyRow.the_field).row _ _ (SurveyRow.the_type).to_one
     survey_row_field_send
 
+pub survey_row_field_sync : IsSync (SurveyRow.the_field).row
+survey_row_field_sync = send.struct_sync (struct.shape SurveyRow.the_type) (
+  send.plain_sync _ _ _ _ _,
+  (
+    moniker_field_sync,
+    (
+      send.plain_sync _ _ _ _ _,
+      (
+        send.plain_sync _ _ _ _ _,
+        (
+          send.plain_sync _ _ _ _ _,
+          (list.the_sync CapPath.the_row cap_path.the_sync, tt),
+        ),
+      ),
+    ),
+  ),
+)
+
+pub survey_row_sync : IsSync SurveyRow.the_row
+survey_row_sync = send.recorded_sync (SurveyRow.the_field).row _ _ (SurveyRow.the_type).to_one
+    survey_row_field_sync
+
+pub survey_rows_send : IsSend (Shared.the_row (List.the_row SurveyRow.the_row))
+survey_rows_send = shared.the_send (List.the_row SurveyRow.the_row)
+    (list.the_send SurveyRow.the_row survey_row_send)
+    (list.the_sync SurveyRow.the_row survey_row_sync)
+
+pub kids_send : IsSend (Shared.the_row (List.the_row Kid.the_row))
+kids_send = shared.the_send (List.the_row Kid.the_row) (list.the_send Kid.the_row kid.the_send)
+    (list.the_sync Kid.the_row kid.the_sync)
+
 pub refusal_field_send : IsSend (Refusal.the_field).row
 refusal_field_send = send.enum_send (enum.shape Refusal.the_type) (
   tt,
@@ -289,7 +321,7 @@ answer_field_send = send.enum_send (enum.shape Answer.the_type) (
           (
             tt,
             (
-              (list.the_send Kid.the_row kid.the_send, tt),
+              (kids_send, tt),
               (
                 (
                   shared.the_send
@@ -301,7 +333,7 @@ answer_field_send = send.enum_send (enum.shape Answer.the_type) (
                   (
                     (look.the_field_send, tt),
                     (
-                      (list.the_send SurveyRow.the_row survey_row_send, tt),
+                      (survey_rows_send, tt),
                       (
                         (
                           list.the_send
@@ -512,11 +544,11 @@ reply_field_send = send.enum_send (enum.shape Reply.the_type) (
                                                                   tt,
                                                                 ),
                                                                 (
-                                                                  (list.the_send Kid.the_row kid.the_send, tt),
+                                                                  (kids_send, tt),
                                                                   (
                                                                     (look.the_field_send, tt),
                                                                     (
-                                                                      (list.the_send SurveyRow.the_row survey_row_send, tt),
+                                                                      (survey_rows_send, tt),
                                                                       (
                                                                         (moniker_field_send, tt),
                                                                         (

@@ -121,7 +121,7 @@ pub enum Answer {
     /// The child has been destroyed.
     Destroyed,
     /// The children, by their incarnations.
-    Children(List<Kid>),
+    Children(Shared<List<Kid>>),
     /// The capability has been opened by this route.
     Opened(Shared<Route>),
     /// The route by which the capability is given.
@@ -129,7 +129,7 @@ pub enum Answer {
     /// How the instance is.
     Shown(Look),
     /// How the instances are, by their incarnations.
-    Surveyed(List<SurveyRow>),
+    Surveyed(Shared<List<SurveyRow>>),
     /// What the check of all routes found out, use by use.
     Doctored(List<Checked>),
     /// The program is off, and whether it was on before.

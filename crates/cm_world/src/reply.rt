@@ -73,11 +73,11 @@ pub enum Reply {
     /// The capability has been opened by this route.
     Opened(Shared<Route>),
     /// The children, by their incarnations.
-    Listed(List<Kid>),
+    Listed(Shared<List<Kid>>),
     /// How the instance is.
     Shown(Look),
     /// How the instances are, by their incarnations.
-    Surveyed(List<SurveyRow>),
+    Surveyed(Shared<List<SurveyRow>>),
     /// The program that stood there is off now.
     Left(Moniker),
     /// The number of entries before this one.

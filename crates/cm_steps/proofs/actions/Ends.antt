@@ -39,6 +39,8 @@ use Rattle.cm_steps.proofs.steps.Going.{goes_on, one_longer}
 use Rattle.cm_steps.specs.Planned.{IsPlannedBy}
 use Rattle.cm_steps.proofs.asked.Keepers.{goes_beside}
 use Rattle.cm_steps.proofs.Planning.{planned_after}
+use Rattle.cm_steps.specs.LastTold.{nothing_told}
+use Rattle.cm_steps.proofs.steps.Telling.{told_none}
 
 -- ---- what it leaves
 
@@ -108,6 +110,7 @@ pub record IsEnded (old new : Inside) (caller a i : ℕ) (f : Finish) (o : Outco
   pub told : IsReported (world_in old) (entry_of caller (End a f) (Ended o)) doomed
   pub keeper : new.records.keeper ≡ followed (End a f) (Ended o) doomed old.records.keeper
   pub plan : IsPlannedBy (is_emptied (End a f) (Ended o) doomed) old.records.plan new.records.plan
+  pub last : new.records.last ≡ nothing_told
 
 -- then they are the tree that the end leaves
 world_ended : (old new : Inside) (caller a : ℕ) (f : Finish) (o : Outcome) (x : Act) → act_of old.acts.items a ≡ Some x → IsEnded old new caller a x.inc f o → after (world_in old) (entry_of caller (End a f) (Ended o)) ≡ world_in new
@@ -164,4 +167,5 @@ kept_ended old new caller a f o may named kept e = record {
       planned_after old (entry_of caller (End a f) (Ended o)) e.doomed new.table.rows new.records.plan kept.stands
       (record { enabled = may; allowed = ap Ended named })
       (ap (λ (w : World). w.rows) (world_ended old new caller a f o may.act may.there e)) e.told kept.planned e.plan;
+  told = told_none new.table.rows new.records.last e.last;
 }

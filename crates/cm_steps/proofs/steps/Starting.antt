@@ -15,6 +15,8 @@ use Rattle.cm_steps.specs.Tasks.{is_open_resolve}
 use Rattle.cm_order.specs.Plans.{KnowsNone}
 use Rattle.cm_steps.specs.Inside.{story_of, world_in, LeavesTree, IsRealmInvariant}
 use Rattle.cm_steps.proofs.Planning.{planned_none}
+use Rattle.cm_steps.specs.LastTold.{nothing_told}
+use Rattle.cm_steps.proofs.steps.Telling.{told_none}
 use Rattle.cm_steps.specs.declared.realm.Realm.TheInside.{Inside}
 use Rattle.cm_laws.proofs.actions.Tasks.{tasked_new}
 use Rattle.cm_cache.specs.Beside.{nothing_held}
@@ -35,8 +37,8 @@ stands_new a table acts joins entries =
     }
 
 -- the fields of a new realm are the tree that no entry leaves
-pub kept_new : (a : Inside) (f : Frame) → a.frame ≡ f → a.table ≡ first_tree f.root f.builtins f.limits.rows → a.acts.items ≡ [] → a.resolves ≡ 0 → a.joins.items ≡ [] → a.records.book ≡ record { entries = []; reserved = 0; limit = f.limits.entries } → a.records.keeper ≡ nothing_held → KnowsNone a.records.plan → IsRealmInvariant a
-kept_new a f frame first acts resolves joins empty held unknown =
+pub kept_new : (a : Inside) (f : Frame) → a.frame ≡ f → a.table ≡ first_tree f.root f.builtins f.limits.rows → a.acts.items ≡ [] → a.resolves ≡ 0 → a.joins.items ≡ [] → a.records.book ≡ record { entries = []; reserved = 0; limit = f.limits.entries } → a.records.keeper ≡ nothing_held → KnowsNone a.records.plan → a.records.last ≡ nothing_told → IsRealmInvariant a
+kept_new a f frame first acts resolves joins empty held unknown untold =
     let table : a.table ≡ first_tree a.frame.root a.frame.builtins a.frame.limits.rows =
     first ∙ ap (λ (g : Frame). first_tree g.root g.builtins g.limits.rows) (sym frame) in
     let made : ℕ → History = λ n. record { entries = []; reserved = 0; limit = n } in
@@ -54,4 +56,5 @@ kept_new a f frame first acts resolves joins empty held unknown =
       tasks = subst (λ xs. IsTasked a.table.rows xs) (sym acts) (subst (λ (t : Tree). IsTasked t.rows []) (sym table) (tasked_new a.frame.root));
       beside = beside_new a.frame a.records.book.entries a.records.keeper (ap (λ (h : History). h.entries) book) held;
       planned = planned_none a.table.rows a.records.plan unknown;
+      told = told_none a.table.rows a.records.last untold;
     }

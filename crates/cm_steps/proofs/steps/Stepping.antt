@@ -22,8 +22,10 @@ use Rattle.cm_cache.specs.Keeping.{asked_by}
 use Rattle.cm_cache.specs.Beside.{is_emptied, followed, IsReported, IsBeside}
 use Rattle.cm_steps.proofs.steps.Going.{goes_on, one_longer}
 use Rattle.cm_steps.specs.Planned.{IsPlannedBy}
+use Rattle.cm_steps.specs.LastTold.{nothing_told}
 use Rattle.cm_steps.proofs.asked.Keepers.{goes_beside}
 use Rattle.cm_steps.proofs.Planning.{planned_after}
+use Rattle.cm_steps.proofs.steps.Telling.{told_none}
 
 -- with one entry that room was reserved for just before
 pub one_pushed : (old mid new : History) (e : Entry) → mid ≡ record old { reserved = old.reserved + 1 } → new ≡ record mid { entries = mid.entries ++ e ∷ []; reserved = mid.reserved - 1 } → new ≡ record old { entries = old.entries ++ e ∷ [] }
@@ -46,6 +48,7 @@ pub record IsRowStep (old new : Inside) (e : Entry) (rows : List Row) (next : �
   pub told : IsReported (world_in old) e doomed
   pub keeper : new.records.keeper ≡ followed e.event e.reply doomed old.records.keeper
   pub plan : IsPlannedBy (is_emptied e.event e.reply doomed) old.records.plan new.records.plan
+  pub last : new.records.last ≡ nothing_told
 
 -- where the entry changes just these, the fields are the tree that it leaves
 world_stepped : (old new : Inside) (e : Entry) (rows : List Row) (next : ℕ) → moved (world_in old) e.caller e.event e.reply ≡ record (world_in old) { rows = rows; next_inc = next } → IsRowStep old new e rows next → after (world_in old) e ≡ world_in new
@@ -88,6 +91,7 @@ kept_rows old new e rows next kept step moves tasked s = record {
       (goes_beside old e s.doomed new.records.book.entries new.records.keeper kept.stands kept.beside (ap (λ (h : History). h.entries) s.book) s.unasked s.told s.keeper);
   planned =
       planned_after old e s.doomed new.table.rows new.records.plan kept.stands step (ap (λ (w : World). w.rows) (world_stepped old new e rows next moves s)) s.told kept.planned s.plan;
+  told = told_none new.table.rows new.records.last s.last;
 }
 
 -- the tree that the fields are is sound, as that of every legal history is

@@ -14,7 +14,7 @@ ghost use Rattle.cm_steps.specs.Reporting as spec;
 use crate::replies::beginning::push_found;
 use crate::replies::opening::unready;
 use cm_decl::{Collection, Decl};
-use cm_names::{ChildName, List, Memory, Name};
+use cm_names::{ChildName, List, Memory, Name, Shared};
 use cm_world::{Kid, Reply, View};
 use std::alloc::Global;
 
@@ -34,7 +34,7 @@ fn listed_by<V: View>(alloc: Global, view: &V, inc: u64, coll: &Name) -> Result<
 {
     if has_collection(view, inc, coll) {
         let kids = kids(alloc, view, inc, coll)?;
-        Ok(Reply::Listed(kids))
+        Ok(Reply::Listed(Shared::new(alloc, kids)?))
     } else {
         Ok(Reply::NoCollection)
     }

@@ -9,7 +9,7 @@ ghost use Rattle.cm_steps.specs.Reporting as spec;
 use crate::copies::push_copy;
 use crate::replies::telling::{Reportable, told_below};
 use cm_decl::Usage;
-use cm_names::{CapPath, List, Memory};
+use cm_names::{CapPath, List, Memory, Shared};
 use cm_table::Table;
 use cm_walk::above::{is_gone, is_on, is_resolved, is_shut};
 use cm_walk::hop::moniker;
@@ -24,7 +24,7 @@ pub fn surveyed(alloc: Global, table: &Table, inc: u64) -> Result<Reply, Memory>
         return Ok(Reply::Gone(inc));
     }
     let rows = told_below(alloc, table, inc)?;
-    Ok(Reply::Surveyed(rows))
+    Ok(Reply::Surveyed(Shared::new(alloc, rows)?))
 }
 
 impl Reportable for SurveyRow {

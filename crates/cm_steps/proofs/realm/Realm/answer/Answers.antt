@@ -58,6 +58,7 @@ invariant_of-self-2 c =
           asks_beside c.self.inside e c.args.inc c.args.path v _ _ c.self.invariant.stands c.self.invariant.beside more asks walked
           (c.in_ok-told.ensures.keeper ∙ c.in_ok-answered.ensures.found);
       planned = c.self.invariant.planned;
+      told = c.self.invariant.told;
     }
 
 pub returns-clause-step : goal.returns-clause-step

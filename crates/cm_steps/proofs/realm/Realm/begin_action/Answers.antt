@@ -24,6 +24,7 @@ use Rattle.cm_steps.specs.Planned.{IsPlannedBy}
 use Rattle.cm_cache.proofs.histories.Dooming.{others_doom_none}
 use Rattle.cm_steps.proofs.asked.Keepers.{goes_beside}
 use Rattle.cm_steps.proofs.Planning.{planned_after}
+use Rattle.cm_steps.proofs.steps.Telling.{told_none}
 use Rattle.cm_steps.proofs.realm.Realm.begin_action.Goals as goal
 
 pub invariant_of-self : goal.invariant_of-self
@@ -97,4 +98,5 @@ invariant_of-self c =
           planned_after c.self.inside e false c.set_pending.new.self.rows c.put_down.new.self.plan c.self.invariant.stands step (ap (λ (v : World). v.rows) behind)
           (others_doom_none w e c.requires.undoomed) c.self.invariant.planned
           (subst (λ r. IsPlannedBy (is_emptied c.args.event r false) c.self.inside.records.plan c.put_down.new.self.plan) same c.put_down.ensures.plan);
+      told = told_none c.set_pending.new.self.rows c.put_down.new.self.last c.put_down.ensures.last;
     }

@@ -97,4 +97,5 @@ invariant_of-self c =
       plan =
           subst (λ g. IsPlannedBy (is_emptied (End c.args.action g) (Ended o) c.expire_by-doomed.result) c.self.inside.records.plan c.put_down.new.self.plan)
           c.end_at-finish.ensures.finish c.put_down.ensures.plan;
+      last = c.put_down.ensures.last;
     })

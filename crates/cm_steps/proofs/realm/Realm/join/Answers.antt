@@ -15,6 +15,7 @@ use Rattle.cm_cache.proofs.histories.Dooming.{others_doom_none}
 use Rattle.cm_steps.proofs.asked.Keepers.{goes_beside}
 use Rattle.cm_cache.specs.Beside.{is_emptied}
 use Rattle.cm_steps.proofs.Planning.{planned_same}
+use Rattle.cm_steps.proofs.steps.Telling.{told_none}
 use Rattle.cm_steps.proofs.realm.Realm.join.Goals as goal
 
 pub invariant_of-self-2 : goal.invariant_of-self-2
@@ -48,4 +49,5 @@ invariant_of-self-2 c =
       tasks = c.self.invariant.tasks;
       beside = goes_beside c.self.inside e false _ _ c.self.invariant.stands c.self.invariant.beside more refl (others_doom_none w e refl) c.put_down.ensures.keeper;
       planned = planned_same c.self.inside.table.rows (is_emptied e.event e.reply false) c.self.inside.records.plan c.put_down.new.self.plan c.self.invariant.planned c.put_down.ensures.plan;
+      told = told_none c.self.inside.table.rows c.put_down.new.self.last c.put_down.ensures.last;
     }

@@ -46,4 +46,5 @@ invariant_of-self-2 c =
           (exits_doom w c.args.caller c.args.inc c.in_ok-kept.kept (increasing_in c.self.inside c.self.invariant.stands));
       keeper = c.put_down.ensures.keeper;
       plan = c.put_down.ensures.plan;
+      last = c.put_down.ensures.last;
     })

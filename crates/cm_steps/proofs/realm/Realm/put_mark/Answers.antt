@@ -36,4 +36,5 @@ invariant_of-self-2 c =
       told = marks_doom w c.args.caller c.args.inc c.args.doom marked;
       keeper = c.put_down.ensures.keeper;
       plan = c.put_down.ensures.plan;
+      last = c.put_down.ensures.last;
     })

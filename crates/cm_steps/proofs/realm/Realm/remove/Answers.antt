@@ -43,4 +43,5 @@ invariant_of-self-2 c =
       told = others_doom_none w e refl;
       keeper = c.put_down.ensures.keeper;
       plan = c.put_down.ensures.plan;
+      last = c.put_down.ensures.last;
     })

@@ -23,4 +23,4 @@ invariant_of-self-2 c =
     (record { enabled = (closing, inr (record { inc = c.args.inc; row = picks.row; may = picks.may })); allowed = picks })
     refl
     (tasked_changed w.rows w.acts c.args.inc set_shut (λ r. refl) (λ r. refl) (λ r. refl) c.self.invariant.tasks)
-    (record { frame = refl; table = c.set_shut.ensures; acts = refl; resolves = refl; joins = refl; book = one_pushed _ _ _ e c.in_ok-reserve.ensures.ok c.put_down.ensures.book; doomed = false; unasked = refl; told = others_doom_none w e refl; keeper = c.put_down.ensures.keeper; plan = c.put_down.ensures.plan })
+    (record { frame = refl; table = c.set_shut.ensures; acts = refl; resolves = refl; joins = refl; book = one_pushed _ _ _ e c.in_ok-reserve.ensures.ok c.put_down.ensures.book; doomed = false; unasked = refl; told = others_doom_none w e refl; keeper = c.put_down.ensures.keeper; plan = c.put_down.ensures.plan; last = c.put_down.ensures.last })

@@ -12,6 +12,7 @@ use Rattle.cm_cache.proofs.histories.Dooming.{others_doom_none}
 use Rattle.cm_steps.proofs.asked.Keepers.{quiet_dooms, goes_beside}
 use Rattle.cm_cache.specs.Beside.{is_emptied}
 use Rattle.cm_steps.proofs.Planning.{planned_same}
+use Rattle.cm_steps.proofs.steps.Telling.{told_same}
 use Rattle.cm_steps.proofs.realm.Realm.tell.Goals as goal
 
 pub invariant_of-self : goal.invariant_of-self
@@ -22,7 +23,7 @@ invariant_of-self c =
     let e : Entry = entry_of c.args.caller c.args.event c.in-Ok.kept in
     let quiet = ap (moves c.args.event) same ∙ c.requires.quiet in
     let pushed : History → History = λ t. record { entries = t.entries ++ e ∷ []; reserved = t.reserved - 1; limit = t.limit } in
-    let book = c.put_down.ensures.book ∙ ap pushed c.in-Ok.ensures.book in
+    let book = c.put_quiet.ensures.book ∙ ap pushed c.in-Ok.ensures.book in
     let more = ap (λ (t : History). t.entries) book in
     record {
       stands =
@@ -41,6 +42,7 @@ invariant_of-self c =
       beside =
           goes_beside c.self.inside e false _ _ c.self.invariant.stands c.self.invariant.beside more
           (subst (λ (v : World). asked_by v c.args.event ≡ None) here c.requires.unasked)
-          (others_doom_none w e (quiet_dooms c.args.event c.in-Ok.kept quiet)) c.put_down.ensures.keeper;
-      planned = planned_same c.self.inside.table.rows (is_emptied e.event e.reply false) c.self.inside.records.plan c.put_down.new.self.plan c.self.invariant.planned c.put_down.ensures.plan;
+          (others_doom_none w e (quiet_dooms c.args.event c.in-Ok.kept quiet)) c.put_quiet.ensures.keeper;
+      planned = planned_same c.self.inside.table.rows (is_emptied e.event e.reply false) c.self.inside.records.plan c.put_quiet.new.self.plan c.self.invariant.planned c.put_quiet.ensures.plan;
+      told = told_same c.self.inside.table.rows c.self.inside.records.last c.put_quiet.new.self.last c.put_quiet.ensures.last c.self.invariant.told;
     }
