@@ -5,3 +5,4 @@ pub mod shutdowns
 pub mod starts
 pub mod checks
 pub mod Crossing
+pub mod callers

@@ -6,15 +6,13 @@ use Rattle.cm_world.specs.declared.action.Finish.{Finish}
 use Rattle.cm_world.specs.declared.action.Work.{Work}
 use Rattle.cm_world.specs.declared.answer.Answer.{Answer}
 use Rattle.cm_world.specs.declared.answer.Refusal.{Refusal}
-use Rattle.cm_world.specs.declared.event.Target.{Target}
 use Rattle.cm_world.specs.declared.frame.Frame.{Frame}
 use Rattle.cm_world.specs.declared.reply.Entry.{Entry}
 use Rattle.cm_command.specs.declared.command.Command.{Command}
 use Rattle.cm_gate.specs.declared.asked.GateCall.{GateCall}
 use Rattle.cm_manager.specs.Asking.{frame_of}
-use Rattle.cm_manager.specs.Contract.{RealmPass, GatesView, IsSubcall, IsWholeCall}
+use Rattle.cm_manager.specs.Contract.{RealmPass, GatesView, IsWholeCall}
 use Rattle.cm_manager.specs.Doing.{Did}
-use Rattle.cm_manager.specs.Parts.{FindsTarget}
 use Rattle.cm_manager.specs.Work.{Manifests}
 
 module _ {G : Type 0} (log_of : G → Option (List GateCall)) (faults_of : G → ℕ) where
@@ -22,23 +20,11 @@ module _ {G : Type 0} (log_of : G → Option (List GateCall)) (faults_of : G →
   abbrev pub gates_view : G → GatesView
   gates_view g = record { log = log_of g; faults = faults_of g }
 
-  -- a part of a call by the pass's caller, with the work of these gates
-  abbrev pub HelpsWith : Manifests → (Frame → ℕ → List Entry → List Entry → Type 0) → RealmPass → RealmPass
-      → G → G → Type 0
-  HelpsWith manifests CallWay old new gates₀ gates₁ =
-      IsSubcall manifests (frame_of old) (CallWay (frame_of old) old.caller) old new
-      (gates_view gates₀) (gates_view gates₁)
-
   -- one whole call of the manager, with the work of these gates
   abbrev pub PerformsWith : Manifests → Command → RealmPass → RealmPass → G → G → Result Answer Refusal
       → Type 0
   PerformsWith manifests command old new gates₀ gates₁ a =
       IsWholeCall manifests (frame_of old) command old new (gates_view gates₀) (gates_view gates₁) a
-
-  -- the row of a target is found, with the work of these gates
-  abbrev pub FindsWith : Manifests → Target → RealmPass → RealmPass → G → G → Result ℕ Refusal → Type 0
-  FindsWith manifests target old new gates₀ gates₁ row =
-      FindsTarget manifests (frame_of old) target old new (gates_view gates₀) (gates_view gates₁) row
 
   -- the work of an action was done by these gates
   abbrev pub DidWith : Manifests → Work → ActKind → Finish → G → G → Type 0

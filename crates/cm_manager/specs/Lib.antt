@@ -9,12 +9,12 @@ pub mod Closed
 pub mod ClosedInside
 pub mod Work
 pub mod Contract
+pub mod Caller
 pub mod Managers
 pub mod Asking
 pub mod Streaming
 pub mod Doing
 pub mod Acting
-pub mod Parts
 pub mod Doctor
 pub mod DoctorInside
 pub mod Gated

@@ -1,86 +1,51 @@
 //! Actions: their begin, their work and their end.
 
-ghost use Rattle.std.specs.Prelude.{◌≡◌};
 ghost use Rattle.cm_manager.specs.Acting.{BeginRun};
+ghost use Rattle.cm_manager.specs.Caller.{CallerRuns};
 ghost use Rattle.cm_manager.specs.Runs.{RunsAction};
-ghost use Rattle.cm_manager.specs.Gated.{HelpsWith};
 
-use crate::Manager;
 use crate::began::Began;
+use crate::caller::Caller;
 use cm_answers::{ActionResult, EventRef};
 use cm_gate::Gates;
-use cm_turn::Pass;
-use cm_world::{ActKind, Entry, Frame, Refusal, Reply};
-use std::alloc::Global;
+use cm_world::{ActKind, Refusal, Reply};
 use std::sync::Wait;
 use std::thread::Threads;
 
-impl Manager {
+impl<'a, R: Threads + Wait + Sync, G: Gates> Caller<'a, R, G> {
     /// Begins an action, and sees it ended where it began it or joined it.
-    pub(crate) fn begin<R: Threads + Wait + Sync, G: Gates>(
-        &self,
-        rt: &R,
-        alloc: Global,
-        pass: Pass<Entry, Frame>,
-        gates: &mut G,
-        kind: ActKind,
-        inc: u64,
-    ) -> (Pass<Entry, Frame>, Result<Began, Refusal>)
-        requires lock { pass.lock ≡ self.now.turn.lock }
-        ensures helps { HelpsWith G.log G.faults self.now.manifests
-            (λ f c a b. BeginRun f c kind inc result.1 a b)
-            pass result.0 gates.old gates.new }
+    pub(crate) fn begin(&mut self, kind: ActKind, inc: u64) -> Result<Began, Refusal>
+        ensures { CallerRuns (λ f c a b. BeginRun f c kind inc result a b) self.old self.new }
     {
-        let (pass, asked) = self.ask(rt, alloc, pass, EventRef::Begin(kind, inc));
-        let reply = match asked {
-            Ok(reply) => reply,
-            Err(refusal) => return (pass, Err(refusal)),
-        };
+        let reply = self.ask(EventRef::Begin(kind, inc))?;
         match reply {
             Reply::Begun(boxed) => {
                 let work = boxed.into_value();
                 let action = work.action;
-                let (ending, eager) = self.do_work(rt, alloc, gates, &pass, kind, work);
-                let (pass, outcome) = self.end_turn(rt, pass, action, ending);
-                (pass, Ok(Began::Ended(action, outcome, eager)))
+                let (ending, eager) = self.do_work(kind, work);
+                let outcome = self.end_turn(action, ending);
+                Ok(Began::Ended(action, outcome, eager))
             }
             Reply::Joined(action) => {
-                let (pass, outcome) = self.await_turn(rt, pass, action);
-                (pass, Ok(Began::Joined(action, outcome)))
+                let outcome = self.await_turn(action);
+                Ok(Began::Joined(action, outcome))
             }
-            Reply::Need(row) => (pass, Ok(Began::Needs(row))),
-            other => (pass, Ok(Began::Quiet(other))),
+            Reply::Need(row) => Ok(Began::Needs(row)),
+            other => Ok(Began::Quiet(other)),
         }
     }
 
     /// Resolves an instance, or finds that there is nothing to begin.
-    pub(crate) fn act_once<R: Threads + Wait + Sync, G: Gates>(
-        &self,
-        rt: &R,
-        alloc: Global,
-        pass: Pass<Entry, Frame>,
-        gates: &mut G,
-        kind: ActKind,
-        inc: u64,
-    ) -> (Pass<Entry, Frame>, Result<ActionResult, Refusal>)
-        requires lock { pass.lock ≡ self.now.turn.lock }
-        requires kind { kind ≡ ActKind.Resolve }
-        ensures helps { HelpsWith G.log G.faults self.now.manifests
-            (λ f c a b. RunsAction f c kind inc a b result.1)
-            pass result.0 gates.old gates.new }
+    pub(crate) fn resolve_row(&mut self, inc: u64) -> Result<ActionResult, Refusal>
+        ensures { CallerRuns (λ f c a b. RunsAction f c ActKind.Resolve inc a b result) self.old self.new }
     {
-        let (pass, began) = self.begin(rt, alloc, pass, gates, kind, inc);
+        let kind = ActKind::Resolve;
+        let began = self.begin(kind, inc)?;
         match began {
-            Ok(Began::Ended(action, outcome, _eager)) => {
-                (pass, Ok(ActionResult::Ended(kind, action, outcome)))
-            }
-            Ok(Began::Joined(action, outcome)) => (
-                pass,
-                Ok(ActionResult::Ended(kind, action, outcome)),
-            ),
-            Ok(Began::Quiet(reply)) => (pass, Ok(ActionResult::Quiet(reply))),
-            Ok(Began::Needs(_row)) => unreachable!(),
-            Err(refusal) => (pass, Err(refusal)),
+            Began::Ended(action, outcome, _eager) => Ok(ActionResult::Ended(kind, action, outcome)),
+            Began::Joined(action, outcome) => Ok(ActionResult::Ended(kind, action, outcome)),
+            Began::Quiet(reply) => Ok(ActionResult::Quiet(reply)),
+            Began::Needs(_row) => unreachable!(),
         }
     }
 
@@ -90,24 +55,13 @@ impl Manager {
     ///
     /// `Err` with `Memory` where memory runs out, and with `HistoryFull` where the history has no
     /// room for what is needed. Then what was begun is ended.
-    pub(crate) fn act<R: Threads + Wait + Sync, G: Gates>(
-        &self,
-        rt: &R,
-        alloc: Global,
-        pass: Pass<Entry, Frame>,
-        gates: &mut G,
-        kind: ActKind,
-        inc: u64,
-    ) -> (Pass<Entry, Frame>, Result<ActionResult, Refusal>)
-        requires lock { pass.lock ≡ self.now.turn.lock }
-        ensures helps { HelpsWith G.log G.faults self.now.manifests
-            (λ f c a b. RunsAction f c kind inc a b result.1)
-            pass result.0 gates.old gates.new }
+    pub(crate) fn act(&mut self, kind: ActKind, inc: u64) -> Result<ActionResult, Refusal>
+        ensures { CallerRuns (λ f c a b. RunsAction f c kind inc a b result) self.old self.new }
     {
         match kind {
-            ActKind::Start => self.start_row(rt, alloc, pass, gates, inc),
-            ActKind::Stop => self.stop_row(rt, alloc, pass, gates, inc),
-            ActKind::Resolve => self.act_once(rt, alloc, pass, gates, kind, inc),
+            ActKind::Start => self.start_row(inc),
+            ActKind::Stop => self.stop_row(inc),
+            ActKind::Resolve => self.resolve_row(inc),
         }
     }
 }

@@ -23,12 +23,15 @@ ghost use Rattle.std.specs.Prelude.{◌≡◌, IfOk};
 ghost use Rattle.cm_command.specs.declared.command.Command.TheVariants as command;
 ghost use Rattle.cm_laws.specs.ShutdownsInside.{IsShutBelow};
 ghost use Rattle.cm_manager.specs.Asking.{frame_of};
-ghost use Rattle.cm_manager.specs.Gated.{HelpsWith, PerformsWith};
+ghost use Rattle.cm_manager.specs.Caller.{CallerPerforms, CallerRuns, TakesTurns};
+ghost use Rattle.cm_manager.specs.Gated.{PerformsWith};
 ghost use Rattle.cm_manager.specs.Laws.{IsRemoved, LeavesRow};
 ghost use Rattle.cm_answers.specs.Questions.{asked_by};
 ghost use Rattle.cm_manager.specs.Questions.{AnswersTo};
+ghost use Rattle.cm_manager.specs.Streaming.{StreamedBy};
 
 use crate::Manager;
+use crate::caller::Caller;
 use crate::laws::answers_hold;
 use cm_answers::ended::acted;
 use cm_answers::{Question, Request, question_of, unless_ended};
@@ -42,63 +45,44 @@ use std::alloc::Global;
 use std::sync::Wait;
 use std::thread::Threads;
 
-impl Manager {
+impl<'a, R: Threads + Wait + Sync, G: Gates> Caller<'a, R, G> {
+    /// Answers what happened at and below the instance of this incarnation behind so many entries.
+    fn events_at(&mut self, inc: u64, from: u64) -> Result<Answer, Refusal>
+        ensures turns { TakesTurns self.old self.new }
+        ensures streamed { StreamedBy inc from self.old.pass self.new.pass result }
+    {
+        let Some(pass) = self.pass.take() else {
+            unreachable!()
+        };
+        let (pass, answer) = self.manager.events_at(self.rt, self.alloc, pass, inc, from);
+        self.pass = Some(pass);
+        answer
+    }
+
     /// Answers a question of the instance of this incarnation.
-    fn answer<R: Threads + Wait + Sync, G: Gates>(
-        &self,
-        rt: &R,
-        alloc: Global,
-        pass: Pass<Entry, Frame>,
-        gates: &mut G,
-        inc: u64,
-        question: Question<'_>,
-    ) -> (Pass<Entry, Frame>, Result<Answer, Refusal>)
-        requires lock { pass.lock ≡ self.now.turn.lock }
-        ensures helps { HelpsWith G.log G.faults self.now.manifests
-            (λ f c a b. AnswersTo f c question.entry inc a b result.1)
-            pass result.0 gates.old gates.new }
+    fn answer(&mut self, inc: u64, question: Question<'_>) -> Result<Answer, Refusal>
+        ensures { CallerRuns (λ f c a b. AnswersTo f c question.entry inc a b result) self.old self.new }
     {
         match question {
-            Question::Act(kind) => {
-                let (pass, went) = self.act(rt, alloc, pass, gates, kind, inc);
-                (pass, acted(kind, went))
-            }
-            Question::Shutdown => {
-                let (pass, end) = self.shut_row(rt, alloc, pass, gates, false, inc);
-                (pass, unless_ended(Answer::Shut, end))
-            }
-            Question::Destroy => {
-                let (pass, end) = self.destroy_row(rt, alloc, pass, gates, inc);
-                (pass, unless_ended(Answer::Destroyed, end))
-            }
-            Question::Doctor => self.doctor_at(rt, alloc, pass, gates, inc),
-            Question::Events(from) => self.events_at(rt, alloc, pass, inc, from),
-            Question::Event(request) => self.request(rt, alloc, pass, gates, inc, request),
+            Question::Act(kind) => acted(kind, self.act(kind, inc)),
+            Question::Shutdown => unless_ended(Answer::Shut, self.shut_row(false, inc)),
+            Question::Destroy => unless_ended(Answer::Destroyed, self.destroy_row(inc)),
+            Question::Doctor => self.doctor_at(inc),
+            Question::Events(from) => self.events_at(inc, from),
+            Question::Event(request) => self.request(inc, request),
         }
     }
 
     /// Finds the instance that a target names, and answers a question of it.
-    fn find_and_answer<R: Threads + Wait + Sync, G: Gates>(
-        &self,
-        rt: &R,
-        alloc: Global,
-        pass: Pass<Entry, Frame>,
-        gates: &mut G,
-        target: &Target,
-        question: Question<'_>,
-    ) -> (Pass<Entry, Frame>, Result<Answer, Refusal>)
-        requires lock { pass.lock ≡ self.now.turn.lock }
-        ensures performs { PerformsWith G.log G.faults self.now.manifests
-            (asked_by target.now question.entry)
-            pass result.0 gates.old gates.new result.1 }
+    fn call(&mut self, target: &Target, question: Question<'_>) -> Result<Answer, Refusal>
+        ensures { CallerPerforms (asked_by target.now question.entry) self.old self.new result }
     {
-        let (pass, row) = self.find_row(rt, alloc, pass, gates, target);
-        match row {
-            Ok(inc) => self.answer(rt, alloc, pass, gates, inc, question),
-            Err(refusal) => (pass, Err(refusal)),
-        }
+        let inc = self.find_row(target)?;
+        self.answer(inc, question)
     }
+}
 
+impl Manager {
     /// Finds the instance that a target names, and answers a question of it. It gives the permit
     /// back.
     pub(crate) fn call<R: Threads + Wait + Sync, G: Gates>(
@@ -115,7 +99,9 @@ impl Manager {
             (asked_by target.now question.entry)
             pass result.0 gates.old gates.new result.1 }
     {
-        let (pass, answer) = self.find_and_answer(rt, alloc, pass, gates, target, question);
+        let mut caller = Caller::new(rt, alloc, self, pass, gates);
+        let answer = caller.call(target, question);
+        let (pass, _gates) = caller.into_parts();
         self.permit.give_back(pass.caller());
         (pass, answer)
     }

@@ -3,173 +3,101 @@
 ghost use Rattle.std.specs.Prelude.{◌≡◌, []};
 ghost use Rattle.cm_command.specs.declared.command.Command.TheVariants as command;
 ghost use Rattle.cm_manager.specs.Asking.{frame_of};
+ghost use Rattle.cm_manager.specs.Caller.{CallerRuns};
 ghost use Rattle.cm_manager.specs.Contract.{IsSamePass};
 ghost use Rattle.cm_manager.specs.Doctor.{GathersEach, OfPath, OfRow, Doctors};
 ghost use Rattle.cm_manager.specs.DoctorInside.{Adding, Gathering, Surveying};
-ghost use Rattle.cm_manager.specs.Gated.{HelpsWith, PerformsWith};
+ghost use Rattle.cm_manager.specs.Gated.{PerformsWith};
 
 use crate::Manager;
+use crate::caller::Caller;
 use cm_answers::{
     Question, Request, doctored, found_at, or_memory, route_in, rows_in, with_unresolved,
 };
 use cm_gate::Gates;
-use cm_names::{CapPath, List};
+use cm_names::{CapPath, List, Shared};
 use cm_turn::Pass;
 use cm_world::{Answer, Checked, Entry, Frame, Refusal, SurveyRow, Target};
 use std::alloc::Global;
 use std::sync::Wait;
 use std::thread::Threads;
 
-impl Manager {
+impl<'a, R: Threads + Wait + Sync, G: Gates> Caller<'a, R, G> {
     /// Surveys the instance of this incarnation and all below it.
-    fn try_survey<R: Threads + Wait + Sync, G: Gates>(
-        &self,
-        rt: &R,
-        alloc: Global,
-        pass: Pass<Entry, Frame>,
-        gates: &mut G,
-        inc: u64,
-    ) -> (Pass<Entry, Frame>, Result<List<SurveyRow>, Refusal>)
-        requires lock { pass.lock ≡ self.now.turn.lock }
-        ensures helps { HelpsWith G.log G.faults self.now.manifests
-            (λ f c a b. Surveying f c inc a b result.1)
-            pass result.0 gates.old gates.new }
+    fn try_survey(&mut self, inc: u64) -> Result<Shared<List<SurveyRow>>, Refusal>
+        ensures { CallerRuns (λ f c a b. Surveying f c inc a b result) self.old self.new }
     {
-        let (pass, went) = self.try_request(rt, alloc, pass, gates, inc, Request::Survey);
-        (pass, rows_in(went))
+        rows_in(self.try_request(inc, Request::Survey))
     }
 
     /// Puts the line of a path that the instance uses behind the others.
-    fn check_path<R: Threads + Wait + Sync, G: Gates>(
-        &self,
-        rt: &R,
-        alloc: Global,
-        pass: Pass<Entry, Frame>,
-        gates: &mut G,
+    fn check_path(
+        &mut self,
         row: &SurveyRow,
         path: &CapPath,
         lines: List<Checked>,
-    ) -> (Pass<Entry, Frame>, Result<List<Checked>, Refusal>)
-        requires lock { pass.lock ≡ self.now.turn.lock }
-        ensures helps { HelpsWith G.log G.faults self.now.manifests
-            (λ f c a b. Adding (OfPath f c row.now path.now) lines a b result.1)
-            pass result.0 gates.old gates.new }
+    ) -> Result<List<Checked>, Refusal>
+        ensures { CallerRuns (λ f c a b. Adding (OfPath f c row.now path.now) lines a b result)
+            self.old self.new }
     {
-        let request = Request::Route(path);
-        let (pass, went) = self.try_request(rt, alloc, pass, gates, row.inc, request);
-        (pass, found_at(lines, row, path, route_in(went)))
+        let went = self.try_request(row.inc, Request::Route(path));
+        found_at(lines, row, path, route_in(went))
     }
 
     /// Puts the lines of all paths that the instance uses behind the others. `Err` tells what
     /// ended the call among them: lack of memory, or of room in the history.
-    fn check_paths<R: Threads + Wait + Sync, G: Gates>(
-        &self,
-        rt: &R,
-        alloc: Global,
-        pass: Pass<Entry, Frame>,
-        gates: &mut G,
+    fn check_paths(
+        &mut self,
         row: &SurveyRow,
         lines: List<Checked>,
-    ) -> (Pass<Entry, Frame>, Result<List<Checked>, Refusal>)
-        requires lock { pass.lock ≡ self.now.turn.lock }
-        requires known { IsSamePass (frame_of pass) pass pass }
-        ensures helps { HelpsWith G.log G.faults self.now.manifests
-            (λ f c a b. Gathering (GathersEach (OfPath f c row.now) row.now.paths) lines a b result.1)
-            pass result.0 gates.old gates.new }
+    ) -> Result<List<Checked>, Refusal>
+        requires known { let p = self.old.pass in IsSamePass (frame_of p) p p }
+        ensures { CallerRuns (λ f c a b.
+            Gathering (GathersEach (OfPath f c row.now) row.now.paths) lines a b result) self.old self.new }
     {
-        let mut idle = pass;
         let mut all = lines;
         for path in row.paths.as_slice() {
-            let (after, checked) = self.check_path(rt, alloc, idle, gates, row, path, all);
-            match checked {
-                Ok(more) => {
-                    idle = after;
-                    all = more;
-                }
-                Err(refusal) => return (after, Err(refusal)),
-            }
+            all = self.check_path(row, path, all)?;
         }
-        (idle, Ok(all))
+        Ok(all)
     }
 
     /// Puts the lines of an instance behind the others: one for each path that it uses, or only
     /// one where it isn't resolved.
-    fn check_row<R: Threads + Wait + Sync, G: Gates>(
-        &self,
-        rt: &R,
-        alloc: Global,
-        pass: Pass<Entry, Frame>,
-        gates: &mut G,
-        row: &SurveyRow,
-        lines: List<Checked>,
-    ) -> (Pass<Entry, Frame>, Result<List<Checked>, Refusal>)
-        requires lock { pass.lock ≡ self.now.turn.lock }
-        requires known { IsSamePass (frame_of pass) pass pass }
-        ensures helps { HelpsWith G.log G.faults self.now.manifests
-            (λ f c a b. Adding (OfRow f c row.now) lines a b result.1)
-            pass result.0 gates.old gates.new }
+    fn check_row(&mut self, row: &SurveyRow, lines: List<Checked>) -> Result<List<Checked>, Refusal>
+        requires known { let p = self.old.pass in IsSamePass (frame_of p) p p }
+        ensures { CallerRuns (λ f c a b. Adding (OfRow f c row.now) lines a b result) self.old self.new }
     {
         if !row.resolved {
-            return (pass, or_memory(with_unresolved(lines, row)));
+            return or_memory(with_unresolved(lines, row));
         }
-        self.check_paths(rt, alloc, pass, gates, row, lines)
+        self.check_paths(row, lines)
     }
 
     /// Gathers the lines of these instances in order. `Err` tells what ended the call among them:
     /// lack of memory, or of room in the history.
-    fn check_rows<R: Threads + Wait + Sync, G: Gates>(
-        &self,
-        rt: &R,
-        alloc: Global,
-        pass: Pass<Entry, Frame>,
-        gates: &mut G,
-        rows: List<SurveyRow>,
-    ) -> (Pass<Entry, Frame>, Result<List<Checked>, Refusal>)
-        requires lock { pass.lock ≡ self.now.turn.lock }
-        requires known { IsSamePass (frame_of pass) pass pass }
-        ensures helps { HelpsWith G.log G.faults self.now.manifests
-            (λ f c a b. Gathering (GathersEach (OfRow f c) rows) [] a b result.1)
-            pass result.0 gates.old gates.new }
+    fn check_rows(&mut self, rows: Shared<List<SurveyRow>>) -> Result<List<Checked>, Refusal>
+        requires known { let p = self.old.pass in IsSamePass (frame_of p) p p }
+        ensures { CallerRuns (λ f c a b. Gathering (GathersEach (OfRow f c) rows) [] a b result)
+            self.old self.new }
     {
-        let mut idle = pass;
-        let mut all = List::new(alloc);
-        for row in rows.as_slice() {
-            let (after, checked) = self.check_row(rt, alloc, idle, gates, row, all);
-            match checked {
-                Ok(more) => {
-                    idle = after;
-                    all = more;
-                }
-                Err(refusal) => return (after, Err(refusal)),
-            }
+        let mut all = List::new(self.alloc);
+        for row in rows.get().as_slice() {
+            all = self.check_row(row, all)?;
         }
-        (idle, Ok(all))
+        Ok(all)
     }
 
     /// Checks the routes of the instance of this incarnation, and of all below it.
-    pub(crate) fn doctor_at<R: Threads + Wait + Sync, G: Gates>(
-        &self,
-        rt: &R,
-        alloc: Global,
-        pass: Pass<Entry, Frame>,
-        gates: &mut G,
-        inc: u64,
-    ) -> (Pass<Entry, Frame>, Result<Answer, Refusal>)
-        requires lock { pass.lock ≡ self.now.turn.lock }
-        ensures helps { HelpsWith G.log G.faults self.now.manifests
-            (λ f c a b. Doctors f c inc a b result.1)
-            pass result.0 gates.old gates.new }
+    pub(crate) fn doctor_at(&mut self, inc: u64) -> Result<Answer, Refusal>
+        ensures { CallerRuns (λ f c a b. Doctors f c inc a b result) self.old self.new }
     {
-        let (after, surveyed) = self.try_survey(rt, alloc, pass, gates, inc);
-        match surveyed {
-            Ok(rows) => {
-                let (last, lines) = self.check_rows(rt, alloc, after, gates, rows);
-                (last, doctored(lines))
-            }
-            Err(refusal) => (after, Err(refusal)),
-        }
+        let rows = self.try_survey(inc)?;
+        doctored(self.check_rows(rows))
     }
+}
 
+impl Manager {
     /// Checks the routes of all that an instance, and all below it, use: `Doctored` with a line
     /// for each path of each of them that is resolved, by their incarnations and in the order of
     /// their declarations, and one line without a path for each that isn't. It starts nothing.

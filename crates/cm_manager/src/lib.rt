@@ -7,6 +7,7 @@
 
 mod acts;
 mod began;
+mod caller;
 mod calls;
 mod doctor;
 pub mod laws;

@@ -5,18 +5,17 @@ ghost use Rattle.cm_world.specs.declared.frame.Frame.{Frame as TheFrame};
 ghost use Rattle.cm_world.specs.declared.reply.Entry.{Entry as TheEntry};
 ghost use Rattle.cm_manager.specs.Asking.{frame_of};
 ghost use Rattle.cm_manager.specs.Acting.{BeginRun, StartsBy, LaunchesBy};
+ghost use Rattle.cm_manager.specs.Caller.{CallerRuns};
 ghost use Rattle.cm_manager.specs.Contract.{IsSamePass};
 ghost use Rattle.cm_manager.specs.Runs.{RunsAction, StartsEager};
-ghost use Rattle.cm_manager.specs.Gated.{HelpsWith};
 
-use crate::Manager;
 use crate::began::{Began, Launch};
+use crate::caller::Caller;
 use cm_answers::{ActionResult, ending_of_eager, if_failed};
 use cm_gate::Gates;
 use cm_names::List;
-use cm_turn::Pass;
-use cm_world::{ActKind, Entry, Frame, Outcome, Refusal};
-use std::alloc::{AllocError, Global};
+use cm_world::{ActKind, Outcome, Refusal};
+use std::alloc::AllocError;
 use std::collections::VecDeque;
 use std::sync::Wait;
 use std::thread::Threads;
@@ -54,70 +53,46 @@ fn in_prefix(rows: List<u64>, others: VecDeque<u64>) -> Result<VecDeque<u64>, Al
     Ok(all)
 }
 
-impl Manager {
+impl<'a, R: Threads + Wait + Sync, G: Gates> Caller<'a, R, G> {
     /// Starts an instance without its eager children, and resolves it first where it has to be.
-    fn start_one<R: Threads + Wait + Sync, G: Gates>(
-        &self,
-        rt: &R,
-        alloc: Global,
-        pass: Pass<Entry, Frame>,
-        gates: &mut G,
-        inc: u64,
-    ) -> (Pass<Entry, Frame>, Launch)
-        requires lock { pass.lock ≡ self.now.turn.lock }
-        ensures helps { HelpsWith G.log G.faults self.now.manifests
-            (λ f c a b. StartsBy f c inc result.1 a b)
-            pass result.0 gates.old gates.new }
+    fn start_one(&mut self, inc: u64) -> Launch
+        ensures { CallerRuns (λ f c a b. StartsBy f c inc result a b) self.old self.new }
     {
-        let mut idle = pass;
+        let rt = self.rt;
         for _ in rt.forever() {
-            let (after, began) = self.begin(rt, alloc, idle, gates, ActKind::Start, inc);
-            let row = match launch_of(began) {
-                Ok(launch) => return (after, launch),
+            let row = match launch_of(self.begin(ActKind::Start, inc)) {
+                Ok(launch) => return launch,
                 Err(row) => row,
             };
-            let (later, went) = self.act_once(rt, alloc, after, gates, ActKind::Resolve, row);
-            if let Some(failed) = if_failed(went) {
-                return (later, Launch::Settled(failed));
+            if let Some(failed) = if_failed(self.resolve_row(row)) {
+                return Launch::Settled(failed);
             }
-            idle = later;
         }
         unreachable!()
     }
 
     /// Starts these instances in order, each with its own eager children before the next. `Some`
-    /// tells what ended the call among them: lack of memory, or of room in the history.
-    fn start_all<R: Threads + Wait + Sync, G: Gates>(
-        &self,
-        rt: &R,
-        alloc: Global,
-        pass: Pass<Entry, Frame>,
-        gates: &mut G,
-        rows: VecDeque<u64>,
-    ) -> (Pass<Entry, Frame>, Option<Refusal>)
-        requires lock { pass.lock ≡ self.now.turn.lock }
-        requires known { IsSamePass (frame_of pass) pass pass }
-        ensures helps { HelpsWith G.log G.faults self.now.manifests
-            (λ f c a b. StartsEager f c rows.items a b result.1)
-            pass result.0 gates.old gates.new }
+    /// tells what ended the call among them: lack of memory, or of room in the history. However deep
+    /// eager children stand below one another, they are in one queue.
+    fn start_all(&mut self, rows: VecDeque<u64>) -> Option<Refusal>
+        requires known { let p = self.old.pass in IsSamePass (frame_of p) p p }
+        ensures { CallerRuns (λ f c a b. StartsEager f c rows.items a b result) self.old self.new }
     {
-        let mut idle = pass;
+        let rt = self.rt;
         let mut left = rows;
         for _ in rt.forever() {
             let Some(row) = left.pop_front() else {
-                return (idle, None);
+                return None;
             };
-            let (after, launch) = self.start_one(rt, alloc, idle, gates, row);
-            idle = after;
-            match launch {
+            match self.start_one(row) {
                 Launch::Settled(went) => {
                     if let Some(refusal) = ending_of_eager(went) {
-                        return (idle, Some(refusal));
+                        return Some(refusal);
                     }
                 }
                 Launch::Children(_action, eager) => match in_prefix(eager, left) {
                     Ok(all) => left = all,
-                    Err(_) => return (idle, Some(Refusal::Memory)),
+                    Err(_) => return Some(Refusal::Memory),
                 },
             }
         }
@@ -125,39 +100,20 @@ impl Manager {
     }
 
     /// Starts an instance, and its eager children behind it where this call itself started it.
-    pub(crate) fn start_row<R: Threads + Wait + Sync, G: Gates>(
-        &self,
-        rt: &R,
-        alloc: Global,
-        pass: Pass<Entry, Frame>,
-        gates: &mut G,
-        inc: u64,
-    ) -> (Pass<Entry, Frame>, Result<ActionResult, Refusal>)
-        requires lock { pass.lock ≡ self.now.turn.lock }
-        ensures helps { HelpsWith G.log G.faults self.now.manifests
-            (λ f c a b. RunsAction f c ActKind.Start inc a b result.1)
-            pass result.0 gates.old gates.new }
+    pub(crate) fn start_row(&mut self, inc: u64) -> Result<ActionResult, Refusal>
+        ensures { CallerRuns (λ f c a b. RunsAction f c ActKind.Start inc a b result) self.old self.new }
     {
-        let (after, launch) = self.start_one(rt, alloc, pass, gates, inc);
-        match launch {
-            Launch::Settled(went) => (after, went),
-            Launch::Children(action, eager) => match in_prefix(eager, VecDeque::new(alloc)) {
-                Ok(rows) => {
-                    let (after, end) = self.start_all(rt, alloc, after, gates, rows);
-                    match end {
-                        None => {
-                            let done = ActionResult::Ended(
-                                ActKind::Start,
-                                action,
-                                Outcome::Started,
-                            );
-                            (after, Ok(done))
-                        }
-                        Some(refusal) => (after, Err(refusal)),
-                    }
+        match self.start_one(inc) {
+            Launch::Settled(went) => went,
+            Launch::Children(action, eager) => {
+                let Ok(rows) = in_prefix(eager, VecDeque::new(self.alloc)) else {
+                    return Err(Refusal::Memory);
+                };
+                match self.start_all(rows) {
+                    None => Ok(ActionResult::Ended(ActKind::Start, action, Outcome::Started)),
+                    Some(refusal) => Err(refusal),
                 }
-                Err(_) => (after, Err(Refusal::Memory)),
-            },
+            }
         }
     }
 }

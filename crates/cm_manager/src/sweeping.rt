@@ -11,13 +11,14 @@ ghost use Rattle.cm_laws.specs.Story.{IsLegal, world_of};
 ghost use Rattle.cm_world.specs.Expiring.{runs_once};
 ghost use Rattle.cm_manager.specs.Turns.{IsLaterHistory, world_after};
 ghost use Rattle.cm_manager.specs.Asking.{frame_of};
+ghost use Rattle.cm_manager.specs.Caller.{CallerRuns, TakesTurns};
 ghost use Rattle.cm_manager.specs.Contract.{IsSamePass};
 ghost use Rattle.cm_manager.specs.Runs.{RunsAction, StartsSingleRun};
 ghost use Rattle.cm_manager.specs.Sweeps.{Removes, Clears, Sweeps};
-ghost use Rattle.cm_manager.specs.Gated.{HelpsWith};
 
 use crate::Manager;
 use crate::began::Began;
+use crate::caller::Caller;
 use crate::manager::check_history;
 use cm_answers::{ActionResult, EventRef, ending_of_eager};
 use cm_gate::Gates;
@@ -26,7 +27,6 @@ use cm_names::List;
 use cm_steps::Realm;
 use cm_turn::Pass;
 use cm_world::{ActKind, Entry, Frame, Refusal, Reply};
-use std::alloc::Global;
 use std::sync::Wait;
 use std::thread::Threads;
 
@@ -39,124 +39,101 @@ fn runs_once_in(realm: &Realm, inc: u64) -> bool
     realm.runs_once(inc)
 }
 
-impl Manager {
+impl<'a, R: Threads + Wait + Sync, G: Gates> Caller<'a, R, G> {
     /// Stops an instance that is marked to be destroyed, with all below it, and removes these.
     /// `Some` tells what ended the call before that.
-    fn remove_row<R: Threads + Wait + Sync, G: Gates>(
-        &self,
-        rt: &R,
-        alloc: Global,
-        pass: Pass<Entry, Frame>,
-        gates: &mut G,
-        inc: u64,
-    ) -> (Pass<Entry, Frame>, Option<Refusal>)
-        requires lock { pass.lock ≡ self.now.turn.lock }
-        requires marked { IsMarked true (world_after (frame_of pass) pass.seen) inc }
-        ensures helps { HelpsWith G.log G.faults self.now.manifests
-            (λ f c a b. Removes f c inc a b result.1)
-            pass result.0 gates.old gates.new }
+    fn remove_row(&mut self, inc: u64) -> Option<Refusal>
+        requires marked { let p = self.old.pass in IsMarked true (world_after (frame_of p) p.seen) inc }
+        ensures { CallerRuns (λ f c a b. Removes f c inc a b result) self.old self.new }
     {
         marks_stay();
-        let (pass, end) = self.stop_all(rt, alloc, pass, gates, inc);
-        if let Some(refusal) = end {
-            return (pass, Some(refusal));
+        if let Some(refusal) = self.stop_all(inc) {
+            return Some(refusal);
         }
-        self.purge(rt, alloc, pass, inc)
+        self.purge(inc)
     }
 
     /// Removes instances that are marked to be destroyed, one after another, each with all below
     /// it. `Some` tells what ended the call among them.
-    fn clear<R: Threads + Wait + Sync, G: Gates>(
-        &self,
-        rt: &R,
-        alloc: Global,
-        pass: Pass<Entry, Frame>,
-        gates: &mut G,
-        rows: List<u64>,
-    ) -> (Pass<Entry, Frame>, Option<Refusal>)
-        requires lock { pass.lock ≡ self.now.turn.lock }
-        requires known { IsSamePass (frame_of pass) pass pass }
-        requires marked { let world = world_after (frame_of pass) pass.seen in
+    fn clear(&mut self, rows: List<u64>) -> Option<Refusal>
+        requires known { let p = self.old.pass in IsSamePass (frame_of p) p p }
+        requires marked { let p = self.old.pass in let world = world_after (frame_of p) p.seen in
             (i : ℕ) → Contains rows i → IsMarked true world i }
-        ensures helps { HelpsWith G.log G.faults self.now.manifests
-            (λ f c a b. Clears f c rows a b result.1)
-            pass result.0 gates.old gates.new }
+        ensures { CallerRuns (λ f c a b. Clears f c rows a b result) self.old self.new }
     {
         marks_stay();
-        let mut idle = pass;
         for row in rows.as_slice() {
-            let (after, end) = self.remove_row(rt, alloc, idle, gates, *row);
-            if let Some(refusal) = end {
-                return (after, Some(refusal));
+            if let Some(refusal) = self.remove_row(*row) {
+                return Some(refusal);
             }
-            idle = after;
         }
-        (idle, None)
+        None
     }
 
     /// Removes what went with an instance that stopped. `Some` tells what ended the call there.
-    pub(crate) fn sweep<R: Threads + Wait + Sync, G: Gates>(
-        &self,
-        rt: &R,
-        alloc: Global,
-        pass: Pass<Entry, Frame>,
-        gates: &mut G,
-        inc: u64,
-    ) -> (Pass<Entry, Frame>, Option<Refusal>)
-        requires lock { pass.lock ≡ self.now.turn.lock }
-        ensures helps { HelpsWith G.log G.faults self.now.manifests
-            (λ f c a b. Sweeps f c inc a b result.1)
-            pass result.0 gates.old gates.new }
+    pub(crate) fn sweep(&mut self, inc: u64) -> Option<Refusal>
+        ensures { CallerRuns (λ f c a b. Sweeps f c inc a b result) self.old self.new }
     {
         reaps_marked();
-        let (pass, asked) = self.ask(rt, alloc, pass, EventRef::Reap(inc));
-        let reply = match asked {
+        let reply = match self.ask(EventRef::Reap(inc)) {
             Ok(reply) => reply,
-            Err(refusal) => return (pass, Some(refusal)),
+            Err(refusal) => return Some(refusal),
         };
         match reply {
-            Reply::Reaping(rows) => self.clear(rt, alloc, pass, gates, rows),
+            Reply::Reaping(rows) => self.clear(rows),
             _ => unreachable!(),
         }
     }
 
     /// Stops an instance, and removes what went with it where this call itself stopped it.
-    pub(crate) fn stop_row<R: Threads + Wait + Sync, G: Gates>(
-        &self,
-        rt: &R,
-        alloc: Global,
-        pass: Pass<Entry, Frame>,
-        gates: &mut G,
-        inc: u64,
-    ) -> (Pass<Entry, Frame>, Result<ActionResult, Refusal>)
-        requires lock { pass.lock ≡ self.now.turn.lock }
-        ensures helps { HelpsWith G.log G.faults self.now.manifests
-            (λ f c a b. RunsAction f c ActKind.Stop inc a b result.1)
-            pass result.0 gates.old gates.new }
+    pub(crate) fn stop_row(&mut self, inc: u64) -> Result<ActionResult, Refusal>
+        ensures { CallerRuns (λ f c a b. RunsAction f c ActKind.Stop inc a b result) self.old self.new }
     {
         let kind = ActKind::Stop;
-        let (pass, began) = self.begin(rt, alloc, pass, gates, kind, inc);
+        let began = self.begin(kind, inc)?;
         match began {
-            Ok(Began::Ended(action, outcome, _eager)) => {
-                let (pass, end) = self.sweep(rt, alloc, pass, gates, inc);
-                match end {
-                    None => (pass, Ok(ActionResult::Ended(kind, action, outcome))),
-                    Some(refusal) => (pass, Err(refusal)),
-                }
-            }
-            Ok(Began::Joined(action, outcome)) => (
-                pass,
-                Ok(ActionResult::Ended(kind, action, outcome)),
-            ),
-            Ok(Began::Quiet(reply)) => (pass, Ok(ActionResult::Quiet(reply))),
-            Ok(Began::Needs(_row)) => unreachable!(),
-            Err(refusal) => (pass, Err(refusal)),
+            Began::Ended(action, outcome, _eager) => match self.sweep(inc) {
+                None => Ok(ActionResult::Ended(kind, action, outcome)),
+                Some(refusal) => Err(refusal),
+            },
+            Began::Joined(action, outcome) => Ok(ActionResult::Ended(kind, action, outcome)),
+            Began::Quiet(reply) => Ok(ActionResult::Quiet(reply)),
+            Began::Needs(_row) => unreachable!(),
         }
     }
 
     /// Whether an instance lives in a collection that runs each child once, as the caller finds
     /// the tree in a turn of its own.
-    fn look_once<R: Wait>(
+    fn look_once(&mut self, inc: u64) -> bool
+        ensures turns { TakesTurns self.old self.new }
+        ensures later { let p = self.old.pass in IsLaterHistory p.caller p.seen self.new.pass.seen }
+        ensures mine { self.new.pass.mine ≡ self.old.pass.mine }
+        ensures once { result ≡ runs_once (world_after (frame_of self.old.pass) self.new.pass.seen).rows inc }
+    {
+        let Some(pass) = self.pass.take() else {
+            unreachable!()
+        };
+        let (pass, once) = self.manager.look_once(self.rt, pass, inc);
+        self.pass = Some(pass);
+        once
+    }
+
+    /// Starts a child that was created, where its collection runs each child once. `Some` tells
+    /// what ended the call there.
+    pub(crate) fn start_once(&mut self, inc: u64) -> Option<Refusal>
+        ensures { CallerRuns (λ f c a b. StartsSingleRun f c inc a b result) self.old self.new }
+    {
+        if !self.look_once(inc) {
+            return None;
+        }
+        ending_of_eager(self.start_row(inc))
+    }
+}
+
+impl Manager {
+    /// Whether an instance lives in a collection that runs each child once, as the caller finds
+    /// the tree in a turn of its own.
+    pub(crate) fn look_once<R: Wait>(
         &self,
         rt: &R,
         pass: Pass<Entry, Frame>,
@@ -172,28 +149,5 @@ impl Manager {
         let mut held = self.turn.enter(rt, pass);
         let once = runs_once_in(held.state(), inc);
         (self.turn.leave(held), once)
-    }
-
-    /// Starts a child that was created, where its collection runs each child once. `Some` tells
-    /// what ended the call there.
-    pub(crate) fn start_once<R: Threads + Wait + Sync, G: Gates>(
-        &self,
-        rt: &R,
-        alloc: Global,
-        pass: Pass<Entry, Frame>,
-        gates: &mut G,
-        inc: u64,
-    ) -> (Pass<Entry, Frame>, Option<Refusal>)
-        requires lock { pass.lock ≡ self.now.turn.lock }
-        ensures helps { HelpsWith G.log G.faults self.now.manifests
-            (λ f c a b. StartsSingleRun f c inc a b result.1)
-            pass result.0 gates.old gates.new }
-    {
-        let (pass, once) = self.look_once(rt, pass, inc);
-        if !once {
-            return (pass, None);
-        }
-        let (pass, went) = self.start_row(rt, alloc, pass, gates, inc);
-        (pass, ending_of_eager(went))
     }
 }

@@ -1,52 +1,29 @@
 -- Calls with one event, behind whose reply something follows.
 use Rattle.std.proofs.Common.{◌≡◌, ℕ, List, Bool, true, false, Option, Some, None, Result, Ok, Err, IsTrue, refl, sym, subst, ◌∙◌}
-use Rattle.cm_world.specs.declared.action.ActKind.TheVariants as kind
-use Rattle.cm_world.specs.declared.answer.Answer.{Answer}
 use Rattle.cm_world.specs.declared.answer.Refusal.{Refusal}
-use Rattle.cm_world.specs.declared.event.Event.{Event}
 use Rattle.cm_world.specs.declared.frame.Frame.{Frame}
 use Rattle.cm_world.specs.declared.reply.Entry.{Entry}
 use Rattle.cm_world.specs.declared.reply.Reply.{Reply}
 use Rattle.cm_world.specs.declared.reply.Reply.TheVariants as reply
 use Rattle.cm_world.specs.Expiring.{runs_once}
-use Rattle.cm_answers.specs.declared.acted.ActionResult.{ActionResult}
 use Rattle.cm_answers.specs.declared.question.Follow.TheVariants as next
 use Rattle.cm_answers.specs.declared.question.Request.{Request}
 use Rattle.cm_answers.specs.declared.question.Request.TheVariants as request
 use Rattle.cm_manager.specs.Turns.{IsLaterHistory, world_after}
-use Rattle.cm_answers.specs.Answers.{unless_ended, decided_by, ends_eager}
 use Rattle.cm_answers.specs.AnswersInside.{created_in, has_left}
-use Rattle.cm_manager.specs.Calls.{CallWay, Then, CallsEventThen, OnceCreated, SweptLeft}
+use Rattle.cm_manager.specs.Calls.{CallWay, Then, OnceCreated, SweptLeft}
 use Rattle.cm_answers.specs.Questions.{started_for, swept_for, follow_of}
 use Rattle.cm_manager.specs.Questions.{FollowsBy}
-use Rattle.cm_manager.specs.Runs.{RunsAction, RetriesEvent, StartsSingleRun}
+use Rattle.cm_manager.specs.Runs.{StartsSingleRun}
 use Rattle.cm_manager.specs.Sweeps.{Sweeps}
 use Rattle.cm_manager.specs.Asking.{frame_of}
 use Rattle.cm_manager.specs.Contract.{RealmPass, GatesView, IsSamePass, IsSubcall}
 use Rattle.cm_manager.specs.Work.{Manifests}
-use Rattle.cm_manager.proofs.calling.Helping.{helps_as, helps_nothing, helps_then}
-use Rattle.cm_manager.proofs.onward.Onward.{by_first}
+use Rattle.cm_manager.proofs.calling.Helping.{helps_nothing}
 
 -- what follows, in a frame and for a caller
 abbrev pub Follow : Type 1
 Follow = Frame → ℕ → ℕ → Reply → CallWay (Option Refusal)
-
--- where nothing follows, the call ends with the reply
-pub nothing_follows : (manifests : Manifests) (e : ℕ → Event) (follow : Follow) (i : ℕ) (went : Result Reply Refusal) (a : Result Answer Refusal) (p q : RealmPass) (g h : GatesView) → IsSubcall manifests (frame_of p) (λ x y. RetriesEvent (frame_of p) p.caller (e i) x y went) p q g h → Then (follow (frame_of p) p.caller i) went q.seen q.seen None → a ≡ decided_by went → IsSubcall manifests (frame_of p) (λ x y. CallsEventThen (frame_of p) p.caller e (follow (frame_of p) p.caller) i x y a) p q g h
-nothing_follows manifests e follow i went a p q g h help nothing is =
-    let f = frame_of p in
-    let c = p.caller in
-    helps_as manifests f (λ x y. RetriesEvent f c (e i) x y went) (λ x y. CallsEventThen f c e (follow f c) i x y a) p q g h
-    (λ way. record { went = went; h₁ = q.seen; end = None; tries = way; follows = nothing; answer = is }) help
-
--- where something does, the call ends with that
-pub something_follows : (manifests : Manifests) (e : ℕ → Event) (follow : Follow) (Part : Frame → ℕ → List Entry → List Entry → Type 0) (i : ℕ) (went : Result Reply Refusal) (end : Option Refusal) (a : Result Answer Refusal) (p q r : RealmPass) (g h k : GatesView) → ((f : Frame) (c : ℕ) (x y : List Entry) → Part f c x y → Then (follow f c i) went x y end) → IsSubcall manifests (frame_of p) (λ x y. RetriesEvent (frame_of p) p.caller (e i) x y went) p q g h → IsSubcall manifests (frame_of q) (λ x y. Part (frame_of q) q.caller x y) q r h k → a ≡ unless_ended end (decided_by went) → IsSubcall manifests (frame_of p) (λ x y. CallsEventThen (frame_of p) p.caller e (follow (frame_of p) p.caller) i x y a) p r g k
-something_follows manifests e follow Part i went end a p q r g h k name first second is =
-    let f = frame_of p in
-    let c = p.caller in
-    helps_then manifests f (λ x y. RetriesEvent f c (e i) x y went) (λ x y. Part f c x y) (λ x y. CallsEventThen f c e (follow f c) i x y a) p q r g h k
-    (λ way part. record { went = went; h₁ = q.seen; end = end; tries = way; follows = name f c q.seen r.seen part; answer = is }) first
-    (by_first (λ f c. IsSubcall manifests f (λ x y. Part f c x y) q r h k) p q first.same.frame first.same.caller second)
 
 -- ---- a create
 
@@ -62,23 +39,13 @@ one_created f c i j (Ok (reply.Created k)) end x y one it =
 one_created f c i j (Ok _) end x y one it = absurd (cc one)
 
 -- the caller looks whether a child runs once
-abbrev Looks : ℕ → Frame → ℕ → List Entry → List Entry → Type 0
+abbrev pub Looks : ℕ → Frame → ℕ → List Entry → List Entry → Type 0
 Looks i f c a b = IsLaterHistory c a b × IsTrue (runs_once (world_after f b).rows i)
 
 -- it doesn't, and nothing is done
 pub not_once : (manifests : Manifests) (i : ℕ) (once : Bool) (p q : RealmPass) (g : GatesView) → IsSamePass (frame_of p) p q → IsLaterHistory p.caller p.seen q.seen → q.mine ≡ p.mine → once ≡ runs_once (world_after (frame_of p) q.seen).rows i → once ≡ false → IsSubcall manifests (frame_of p) (λ a b. StartsSingleRun (frame_of p) p.caller i a b None) p q g g
 not_once manifests i once p q g same later mine by is =
     helps_nothing manifests (frame_of p) (λ a b. StartsSingleRun (frame_of p) p.caller i a b None) p q g same (StartsSingleRun.not_once later (sym by ∙ is)) mine
-
--- it does, and is started
-pub once_started : (manifests : Manifests) (i : ℕ) (once : Bool) (went : Result ActionResult Refusal) (end : Option Refusal) (p q r : RealmPass) (g h : GatesView) → IsSamePass (frame_of p) p q → IsLaterHistory p.caller p.seen q.seen → q.mine ≡ p.mine → once ≡ runs_once (world_after (frame_of p) q.seen).rows i → once ≡ true → end ≡ ends_eager went → IsSubcall manifests (frame_of q) (λ a b. RunsAction (frame_of q) q.caller kind.Start i a b went) q r g h → IsSubcall manifests (frame_of p) (λ a b. StartsSingleRun (frame_of p) p.caller i a b end) p r g h
-once_started manifests i once went end p q r g h same later mine by is ended acts =
-    let f = frame_of p in
-    let c = p.caller in
-    helps_then manifests f (λ a b. Looks i f c a b) (λ a b. RunsAction f c kind.Start i a b went) (λ a b. StartsSingleRun f c i a b end) p q r g g h
-    (λ s t. subst (λ (o : Option Refusal). StartsSingleRun f c i p.seen r.seen o) (sym ended) (StartsSingleRun.once s.0 s.1 t))
-    (helps_nothing manifests f (λ a b. Looks i f c a b) p q g same (later, sym by ∙ is) mine)
-    (by_first (λ f c. IsSubcall manifests f (λ a b. RunsAction f c kind.Start i a b went) q r g h) p q same.frame same.caller acts)
 
 -- ---- an exit
 

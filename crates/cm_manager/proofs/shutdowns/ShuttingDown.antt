@@ -4,7 +4,6 @@ use Rattle.cm_world.specs.declared.action.ActKind.TheVariants as kind
 use Rattle.cm_world.specs.declared.action.Finish.{Finish}
 use Rattle.cm_world.specs.declared.action.Outcome.{Outcome}
 use Rattle.cm_world.specs.declared.action.Work.{Work}
-use Rattle.cm_world.specs.declared.answer.Answer.{Answer}
 use Rattle.cm_world.specs.declared.answer.Refusal.{Refusal}
 use Rattle.cm_world.specs.declared.event.Event.TheVariants as event
 use Rattle.cm_world.specs.declared.frame.Frame.{Frame}
@@ -20,11 +19,10 @@ use Rattle.cm_laws.specs.Shutdowns.{IsLeaving, IsMarked}
 use Rattle.cm_laws.specs.ShutdownsInside.{IsShutBelow, MarksMark, MarksStay, DoneIsOver, PickersMayEnd}
 use Rattle.cm_laws.specs.Story.{IsLegal, world_of}
 use Rattle.cm_manager.specs.Turns.{AddsOneEntry, AddsWithinRoom, EndsWithoutEntry, world_after}
-use Rattle.cm_answers.specs.Answers.{answer_unless, unmarked}
+use Rattle.cm_answers.specs.Answers.{unmarked}
 use Rattle.cm_answers.specs.AnswersInside.{unmarked_by}
 use Rattle.cm_manager.specs.Shutdowns.{Shuts, Destroys}
 use Rattle.cm_manager.specs.Sweeps.{Stops}
-use Rattle.cm_manager.specs.Calls.{ComesToAnswer}
 use Rattle.cm_manager.specs.Acting.{PickRun}
 use Rattle.cm_manager.specs.Asking.{RecordsEvent, Purged, RecordsOutcome, frame_of}
 use Rattle.cm_manager.specs.Contract.{RealmPass, GatesView, IsSamePass, IsSubcall}
@@ -35,8 +33,8 @@ use Rattle.cm_manager.specs.declared.began.PickTurn.TheVariants as picked
 use Rattle.cm_manager.specs.ClosedInside.{AddsClosedPart}
 use Rattle.cm_manager.proofs.left.Closing.{cut-later, grows-trans, later-grows, plain-grows, stops_close}
 use Rattle.cm_manager.proofs.left.Due.{leaving_stays, marked_stays}
-use Rattle.cm_manager.proofs.calling.Helping.{helps_acted, helps_as, helps_nothing, helps_plain, helps_then}
-use Rattle.cm_manager.proofs.onward.Onward.{Ways, Onward, onward_next, by_first, frame_kept}
+use Rattle.cm_manager.proofs.calling.Helping.{helps_acted, helps_nothing, helps_plain}
+use Rattle.cm_manager.proofs.onward.Onward.{by_first, frame_kept}
 use Rattle.cm_manager.proofs.left.Standing.{last_step, told}
 
 -- what holds in every case holds where nothing ended the call
@@ -91,34 +89,9 @@ on_help manifests t w end o p q r g h first asked did second told =
 
 -- ---- all picks of a target
 
--- the stops of a target, by what ended the call among them
-abbrev pub Stopping : ℕ → Ways (Option Refusal)
-Stopping t f c end a b = Stops f c t a b end
-
 -- a pick, by what it came to
 abbrev pub Picking : ℕ → PickTurn → Frame → ℕ → List Entry → List Entry → Type 0
 Picking t by f c a b = PickRun f c t by a b
-
--- a pick by what it is
-pub picked_as : (manifests : Manifests) (t : ℕ) (by : PickTurn) (Other : List Entry → List Entry → Type 0) (p q : RealmPass) (g h : GatesView) → (PickRun (frame_of p) p.caller t by p.seen q.seen → Other p.seen q.seen) → IsSubcall manifests (frame_of p) (λ a b. Picking t by (frame_of p) p.caller a b) p q g h → IsSubcall manifests (frame_of p) Other p q g h
-picked_as manifests t by Other p q g h name help = helps_as manifests (frame_of p) (λ a b. Picking t by (frame_of p) p.caller a b) Other p q g h name help
-
-pub done_stops : (manifests : Manifests) (t : ℕ) (by : PickTurn) (p q : RealmPass) (g h : GatesView) → by ≡ picked.Done → IsSubcall manifests (frame_of p) (λ a b. Picking t by (frame_of p) p.caller a b) p q g h → IsSubcall manifests (frame_of p) (λ a b. Stopping t (frame_of p) p.caller None a b) p q g h
-done_stops manifests t by p q g h is help =
-    picked_as manifests t by (λ a b. Stopping t (frame_of p) p.caller None a b) p q g h
-    (λ it. Stops.all_shut (subst (λ (by : PickTurn). PickRun (frame_of p) p.caller t by p.seen q.seen) is it)) help
-
-pub cut_stops : (manifests : Manifests) (t : ℕ) (by : PickTurn) (x : Refusal) (p q : RealmPass) (g h : GatesView) → by ≡ picked.Cut x → IsSubcall manifests (frame_of p) (λ a b. Picking t by (frame_of p) p.caller a b) p q g h → IsSubcall manifests (frame_of p) (λ a b. Stopping t (frame_of p) p.caller (Some x) a b) p q g h
-cut_stops manifests t by x p q g h is help =
-    picked_as manifests t by (λ a b. Stopping t (frame_of p) p.caller (Some x) a b) p q g h
-    (λ it. Stops.cut_pick (subst (λ (by : PickTurn). PickRun (frame_of p) p.caller t by p.seen q.seen) is it)) help
-
-pub stops_next : (manifests : Manifests) (t : ℕ) (by : PickTurn) (first p q : RealmPass) (g₀ g h : GatesView) → Onward manifests (Stopping t) (Stopping t) first p g₀ g → by ≡ picked.Further → IsSubcall manifests (frame_of p) (λ a b. Picking t by (frame_of p) p.caller a b) p q g h → Onward manifests (Stopping t) (Stopping t) first q g₀ h
-stops_next manifests t by first p q g₀ g h o is help =
-    let f = frame_of p in
-    let c = p.caller in
-    onward_next manifests (Stopping t) (Stopping t) (Stopping t) (λ a b. Picking t by f c a b) first p q g₀ g h o help
-    (λ b end it rest. (subst (λ (by : PickTurn). PickRun f c t by p.seen q.seen) is it) b end rest)
 
 -- behind the last pick all is shut
 pub done_over : MarksStay → DoneIsOver → (manifests : Manifests) (t : ℕ) (by : PickTurn) (p q : RealmPass) (g h : GatesView) → IsLeaving (world_after (frame_of p) p.seen) t → by ≡ picked.Done → IsSubcall manifests (frame_of p) (λ a b. Picking t by (frame_of p) p.caller a b) p q g h → IsShutBelow (world_after (frame_of q) q.seen) t
@@ -179,30 +152,7 @@ unmarked_shuts manifests doom i (Err y) x p q g is same it =
     helps_nothing manifests (frame_of p) (λ a b. Shuts (frame_of p) p.caller doom i a b (Some x)) p q g same
     (subst (λ (o : Option Refusal). Shuts (frame_of p) p.caller doom i p.seen q.seen o) is (Shuts.cut_mark it.0)) it.1
 
-pub marked_shuts : (manifests : Manifests) (doom : Bool) (i : ℕ) (end : Option Refusal) (p q r : RealmPass) (g h k : GatesView) → IsSubcall manifests (frame_of p) (λ a b. Marks doom i (frame_of p) p.caller a b) p q g h → IsSubcall manifests (frame_of q) (λ a b. Stopping i (frame_of q) q.caller end a b) q r h k → IsSubcall manifests (frame_of p) (λ a b. Shuts (frame_of p) p.caller doom i a b end) p r g k
-marked_shuts manifests doom i end p q r g h k first all =
-    let f = frame_of p in
-    let c = p.caller in
-    helps_then manifests f (λ a b. Marks doom i f c a b) (λ a b. Stopping i f c end a b) (λ a b. Shuts f c doom i a b end) p q r g h k
-    (λ m s. Shuts.marked m.1 m.2 s) first
-    (by_first (λ f c. IsSubcall manifests f (λ a b. Stopping i f c end a b) q r h k) p q first.same.frame first.same.caller all)
-
 -- ---- a row that is destroyed
-
--- its shutdown, by what ended the call there
-abbrev pub Shutting : Bool → ℕ → Ways (Option Refusal)
-Shutting doom i f c end a b = Shuts f c doom i a b end
-
-pub unshut_destroys : (manifests : Manifests) (i : ℕ) (end : Option Refusal) (x : Refusal) (p q : RealmPass) (g h : GatesView) → end ≡ Some x → IsSubcall manifests (frame_of p) (λ a b. Shutting true i (frame_of p) p.caller end a b) p q g h → IsSubcall manifests (frame_of p) (λ a b. Destroys (frame_of p) p.caller i a b (Some x)) p q g h
-unshut_destroys manifests i end x p q g h is help =
-    let f = frame_of p in
-    let c = p.caller in
-    helps_as manifests f (λ a b. Shutting true i f c end a b) (λ a b. Destroys f c i a b (Some x)) p q g h
-    (λ s. Destroys.unshut (subst (λ (o : Option Refusal). Shuts f c true i p.seen q.seen o) is s)) help
-
--- its destruction likewise
-abbrev pub Destroying : ℕ → Ways (Option Refusal)
-Destroying i f c end a b = Destroys f c i a b end
 
 -- one turn with the removal, or what ended the call there
 abbrev pub Purges : ℕ → Frame → ℕ → Option Refusal → List Entry → List Entry → Type 0
@@ -213,24 +163,9 @@ pub purge_help : (manifests : Manifests) (i : ℕ) (end : Option Refusal) (p q :
 purge_help manifests i None p q g same it = helps_plain manifests (frame_of p) (λ a b. Purges i (frame_of p) p.caller None a b) p q g (event.Purge i) it.0 refl refl refl same (it.0, it.1.0) it.1.1
 purge_help manifests i (Some x) p q g same it = helps_nothing manifests (frame_of p) (λ a b. Purges i (frame_of p) p.caller (Some x) a b) p q g same it.0 it.1
 
-purged_by : (f : Frame) (c i : ℕ) (end : Option Refusal) (a b d : List Entry) → Shuts f c true i a b None → Purges i f c end b d → Destroys f c i a d end
+pub purged_by : (f : Frame) (c i : ℕ) (end : Option Refusal) (a b d : List Entry) → Shuts f c true i a b None → Purges i f c end b d → Destroys f c i a d end
 purged_by f c i None a b d shuts purges = Destroys.purged shuts purges.1
 purged_by f c i (Some x) a b d shuts purges = Destroys.cut_purge shuts purges
-
-pub shut_destroys : (manifests : Manifests) (i : ℕ) (shut end : Option Refusal) (p q r : RealmPass) (g h : GatesView) → shut ≡ None → IsSubcall manifests (frame_of p) (λ a b. Shutting true i (frame_of p) p.caller shut a b) p q g h → IsSamePass (frame_of q) q r → Purged i q r end → IsSubcall manifests (frame_of p) (λ a b. Destroys (frame_of p) p.caller i a b end) p r g h
-shut_destroys manifests i shut end p q r g h is first same it =
-    let f = frame_of p in
-    let c = p.caller in
-    helps_then manifests f (λ a b. Shutting true i f c shut a b) (λ a b. Purges i f c end a b) (λ a b. Destroys f c i a b end) p q r g h h
-    (λ s t. purged_by f c i end p.seen q.seen r.seen (subst (λ (o : Option Refusal). Shuts f c true i p.seen q.seen o) is s) t) first
-    (by_first (λ f c. IsSubcall manifests f (λ a b. Purges i f c end a b) q r h h) p q first.same.frame first.same.caller (purge_help manifests i end q r h same it))
-
--- ---- answers
-
--- a call that comes to one answer unless something ended it before
-pub reaches_on : (manifests : Manifests) (Over : Ways (Option Refusal)) (made : Answer) (end : Option Refusal) (p q : RealmPass) (g h : GatesView) (a : Result Answer Refusal) → IsSubcall manifests (frame_of p) (λ x y. Over (frame_of p) p.caller end x y) p q g h → a ≡ answer_unless made end → IsSubcall manifests (frame_of p) (λ x y. ComesToAnswer made (λ b d o. Over (frame_of p) p.caller o b d) x y a) p q g h
-reaches_on manifests Over made end p q g h a help is =
-    helps_as manifests (frame_of p) (λ x y. Over (frame_of p) p.caller end x y) (λ x y. ComesToAnswer made (λ b d o. Over (frame_of p) p.caller o b d) x y a) p q g h (λ way. (end, way, is)) help
 
 -- ---- parts
 

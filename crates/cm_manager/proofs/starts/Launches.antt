@@ -14,16 +14,11 @@ use Rattle.cm_world.specs.Expiring.{is_stopped}
 use Rattle.cm_manager.specs.Turns.{IsLaterHistory, AddsWithinRoom}
 use Rattle.cm_answers.specs.Answers.{ends_call}
 use Rattle.cm_manager.specs.Runs.{RunsAction, StartsEager, is_started, is_followed}
-use Rattle.cm_manager.specs.Acting.{EndsBegun, Joins, BeginRun, StartsBy}
+use Rattle.cm_manager.specs.Acting.{EndsBegun, Joins, StartsBy}
 use Rattle.cm_answers.specs.declared.acted.ActionResult.{ActionResult}
 use Rattle.cm_answers.specs.declared.acted.ActionResult.TheVariants as acted
-use Rattle.cm_manager.specs.Asking.{frame_of}
-use Rattle.cm_manager.specs.Contract.{RealmPass, GatesView, IsSubcall}
-use Rattle.cm_manager.specs.Work.{Manifests}
-use Rattle.cm_manager.specs.declared.began.Began.{Began}
 use Rattle.cm_manager.specs.declared.began.Launch.{Launch}
 use Rattle.cm_manager.specs.declared.began.Launch.TheVariants as launch
-use Rattle.cm_manager.proofs.calling.Helping.{helps_as}
 use Rattle.cm_manager.proofs.calling.Joining.{eagers-split}
 
 -- ---- one begin
@@ -58,25 +53,10 @@ children_start f c i n eager a b ends d None rest =
 children_start f c i n eager a b ends d (Some x) rest =
     RunsAction.started_cut {finish = ends.finish} ends.asks ends.makes (subst (λ (l : List ℕ). StartsEager f c l b d (Some x)) (ends.children refl) rest)
 
--- a begin by another name
-pub begun_as : (manifests : Manifests) (k : ActKind) (i : ℕ) (by : Result Began Refusal) (CallWay : Frame → ℕ → List Entry → List Entry → Type 0) (p q : RealmPass) (g h : GatesView) → ((f : Frame) (c : ℕ) (a b : List Entry) → BeginRun f c k i by a b → CallWay f c a b) → IsSubcall manifests (frame_of p) (λ a b. BeginRun (frame_of p) p.caller k i by a b) p q g h → IsSubcall manifests (frame_of p) (λ a b. CallWay (frame_of p) p.caller a b) p q g h
-begun_as manifests k i by CallWay p q g h name help =
-    helps_as manifests (frame_of p) (λ a b. BeginRun (frame_of p) p.caller k i by a b) (λ a b. CallWay (frame_of p) p.caller a b) p q g h (name (frame_of p) p.caller p.seen q.seen) help
-
 -- a row that is resolved before a start, whatever the start comes to then
 pub resolved_start : (f : Frame) (c i j : ℕ) (went : Result ActionResult Refusal) (end : Launch) (a b d e : List Entry) → AddsWithinRoom f c a (event.Begin kind.Start i) (reply.Need j) b → RunsAction f c kind.Resolve j b d went → ends_call went ≡ None → StartsBy f c i end d e → StartsBy f c i end a e
 resolved_start f c i j went (launch.Settled then) a b d e asks acts fine starts = RunsAction.resolved_first asks acts fine starts
 resolved_start f c i j went (launch.Children n eager) a b d e asks acts fine starts = λ h end rest. RunsAction.resolved_first asks acts fine (starts h end rest)
-
--- a begin as a start
-pub started_as : (manifests : Manifests) (i : ℕ) (by : Result Began Refusal) (end : Launch) (p q : RealmPass) (g h : GatesView) → ((f : Frame) (c i : ℕ) (a b : List Entry) → BeginRun f c kind.Start i by a b → StartsBy f c i end a b) → IsSubcall manifests (frame_of p) (λ a b. BeginRun (frame_of p) p.caller kind.Start i by a b) p q g h → IsSubcall manifests (frame_of p) (λ a b. StartsBy (frame_of p) p.caller i end a b) p q g h
-started_as manifests i by end p q g h name help =
-    begun_as manifests kind.Start i by (λ f c a b. StartsBy f c i end a b) p q g h (λ f c a b. name f c i a b) help
-
--- or as one that needs another row
-pub needing_as : (manifests : Manifests) (i j : ℕ) (by : Result Began Refusal) (p q : RealmPass) (g h : GatesView) → ((f : Frame) (c i : ℕ) (a b : List Entry) → BeginRun f c kind.Start i by a b → AddsWithinRoom f c a (event.Begin kind.Start i) (reply.Need j) b) → IsSubcall manifests (frame_of p) (λ a b. BeginRun (frame_of p) p.caller kind.Start i by a b) p q g h → IsSubcall manifests (frame_of p) (λ a b. AddsWithinRoom (frame_of p) p.caller a (event.Begin kind.Start i) (reply.Need j) b) p q g h
-needing_as manifests i j by p q g h name help =
-    begun_as manifests kind.Start i by (λ f c a b. AddsWithinRoom f c a (event.Begin kind.Start i) (reply.Need j) b) p q g h (λ f c a b. name f c i a b) help
 
 -- ---- behind a start
 

@@ -1,0 +1,4 @@
+pub mod CallerRuns
+pub mod CallerStarts
+pub mod CallerStops
+pub mod CallerAnswers
