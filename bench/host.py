@@ -81,6 +81,15 @@ def direct():
                     link.sendall(b"1\\n")
     while True:
         threading.Thread(target=serve, args=(door.accept()[0],), daemon=True).start()
+def in_turns(what, work, count):
+    # Both ways in short rounds beside each other, since other work may come and go.
+    found = {through: [], plain: []}
+    for _ in range(ROUNDS):
+        for path, times in found.items():
+            times += work(path, count // ROUNDS)
+    show(what + " through the runner", found[through])
+    show(what + " plain sockets     ", found[plain])
+ROUNDS = 10
 through, plain = "/svc/bench.Door", os.path.join("/tmp", "direct")
 connects(through, 3)
 if os.fork() == 0:
@@ -94,12 +103,10 @@ while True:
 print("ready", flush=True)
 time.sleep(1)
 if sys.argv[1] == "connects":
-    show("connect, a line, its answer, through the runner", connects(through, 1000))
+    in_turns("connect, a line, its answer,", connects, 1000)
 elif sys.argv[1] == "lines":
-    show("a line and its answer,       through the runner", lines(through, 2000))
+    in_turns("a line and its answer,      ", lines, 2000)
 else:
-    show("connect, a line, its answer, plain sockets     ", connects(plain, 1000))
-    show("a line and its answer,       plain sockets     ", lines(plain, 2000))
     for what, path in ("through the runner", through), ("plain sockets     ", plain):
         print(f"bytes of one connection,     {what}: {carried(path, 1 << 29):.2f} GB/s", flush=True)
 print("done", flush=True)
@@ -151,7 +158,7 @@ def connections(Host, folder, package, root_of):
     repo = base / "repo"
     package(repo, "door", P % ("", ',capabilities:[{protocol:"bench.Door"}],'
                                'expose:[{protocol:"bench.Door",from:"self"}]'), PROVIDER)
-    phases = {"connects": 1000, "lines": 2000, "plain": 0}
+    phases = {"connects": 1000, "lines": 2000, "bytes": 0}
     for name in phases:
         package(repo, name, P % (f',args:["{name}"]', ',use:[{protocol:"bench.Door"}]'), CLIENT)
     targets = ",".join(f'"#{name}"' for name in phases)
@@ -164,7 +171,8 @@ def connections(Host, folder, package, root_of):
         pids = host.runner_pid(), host.manager_pids()[0]
         before = [processor(pid) for pid in pids]
         host.wait_until(lambda: "done\n" in host.said(name), "measurement")
-        print(host.said(name).replace("done\n", "").replace("ready\n", "").rstrip() + AIMS.get(name, ""))
+        first, *more = host.said(name).replace("done\n", "").replace("ready\n", "").rstrip().split("\n")
+        print("\n".join([first + AIMS.get(name, ""), *more]))
         if count:
             runner, manager = ((processor(pid) - was) / count for pid, was in zip(pids, before))
             print(f"  of the processor a {name[:-1]} takes {runner:.0f} us of the runner, {manager:.0f} of "

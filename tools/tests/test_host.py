@@ -327,24 +327,39 @@ class Written(InFolder):
         self.assertEqual(json.loads(written(line)), line)
         self.assertEqual(written(line).count("\n"), 1)
 
-    def test_later(self) -> None:
-        """host: an event that may wait is written with the next one, before it, or by itself"""
+    def test_closed(self) -> None:
+        """host: that a connection is closed is written with the next event, before it, or by itself"""
         log, waits = Log(self.folder, io.StringIO()), list[Callable[[], None]]()
         log.call_later = lambda _, flush: waits.append(flush)
         for number in 1, 2:
-            log.later("closed", connection=number)
+            log.closed("a", number)
         self.assertEqual((self.folder / EVENTS).read_text(), "")
         log.note("opened", connection=3)
-        log.later("closed", connection=3)
+        log.closed("a", 3)
         # It is looked after them once, however many come meanwhile, and again behind that.
         self.assertEqual(len(waits), 1)
         waits.pop()()
-        log.later("closed", connection=4)
+        log.closed("a", 4)
         self.assertEqual(len(waits), 1)
         waits.pop()()
         events = [json.loads(line) for line in (self.folder / EVENTS).read_text().splitlines()]
         self.assertEqual([(one["event"], one["connection"]) for one in events],
                          [("closed", 1), ("closed", 2), ("opened", 3), ("closed", 3), ("closed", 4)])
+
+    def test_opened(self) -> None:
+        """host: that a connection is opened or closed is written as any other event is"""
+        log = Log(self.folder, screen := io.StringIO())
+        log.event("opened", moniker='a"', path="/\u00e9", manager=2, provider="b\\", connection=7)
+        self.assertTrue(log.opened('a"', "/\u00e9", 2, "b\\", 7))
+        log.show_opened('a"', "/\u00e9", "b\\")
+        log.closed('a"', 7)
+        log.note("closed", moniker='a"', connection=7)
+        events = [json.loads(line) for line in (self.folder / EVENTS).read_text().splitlines()]
+        for one in events:
+            self.assertLess(abs(one.pop("at") - time.time()), SECONDS)
+        self.assertEqual(events[0::2], events[1::2])
+        one, other = screen.getvalue().splitlines()
+        self.assertEqual(one, other)
 
     def test_gone(self) -> None:
         """host: of what instances printed that have gone the oldest goes, and that of no other"""
@@ -672,6 +687,19 @@ class Watched(InFolder):
         self.assertEqual(called, ["first"])
 
 
+class Kept(Carried):
+    """A connection that is carried, and how it ended."""
+
+    __slots__ = ("how",)
+
+    def __init__(self, one: socket.socket, other: socket.socket, first: bytes = b"") -> None:
+        super().__init__(watching.watcher(), one, other, first)
+        self.how: list[OSError | None] = []
+
+    def ended(self, fault: OSError | None) -> None:
+        self.how.append(fault)
+
+
 class Carries(unittest.TestCase):
     """What comes over a connection that is carried."""
 
@@ -680,12 +708,12 @@ class Carries(unittest.TestCase):
         """What a client and a provider return, each in a thread, of which the runner has the other ends."""
         client, near = socket.socketpair()
         far, provider = socket.socketpair()
-        ended: list[OSError | None] = []
 
         async def work() -> tuple[bytes, bytes]:
-            Carried(watching.watcher(), near, far, lambda _, fault: ended.append(fault), first).begin()
+            kept = Kept(near, far, first)
+            kept.begin()
             both = await asyncio.gather(asyncio.to_thread(one, client), asyncio.to_thread(other, provider))
-            while not ended:
+            while not kept.how:
                 await asyncio.sleep(0.001)
             return both[0], both[1]
 
@@ -751,16 +779,16 @@ class Carries(unittest.TestCase):
             self.assertEqual(self.carries(client, provider), (b"", b"alone"))
         (client_end, near), (far, provider_end) = socket.socketpair(), socket.socketpair()
         client_end.close()
-        ended: list[OSError | None] = []
 
-        async def before() -> None:
-            Carried(watching.watcher(), near, far, lambda _, fault: ended.append(fault)).begin()
-            while not ended:
+        async def before() -> list[OSError | None]:
+            kept = Kept(near, far)
+            kept.begin()
+            while not kept.how:
                 await asyncio.sleep(0.001)
+            return kept.how
 
         with provider_end:
-            watching.run(asyncio.wait_for(before(), SECONDS))
-        self.assertEqual(ended, [None])
+            self.assertEqual(watching.run(asyncio.wait_for(before(), SECONDS)), [None])
 
 
 def all_of(link: socket.socket) -> bytes:
@@ -885,11 +913,13 @@ class Small(InFolder):
             self.assertFalse(can_be_kept(rights), rights)
 
     def test_room(self) -> None:
-        """host: a realm takes so many commands at once"""
-        room = Room()
-        self.assertEqual([room.take() for _ in range(200)], [True] * 200)
-        room.since += 60
-        self.assertFalse(room.take())
+        """host: a realm takes 200 commands at once, and 20 in each second behind that"""
+        with patch.object(time, "monotonic", return_value=100.0) as clock:
+            room = Room()
+            for now, count in (100.0, 200), (100.5, 10), (101.5, 20), (1000.0, 200):
+                clock.return_value = now
+                self.assertEqual([room.take() for _ in range(count)], [True] * count)
+                self.assertFalse(room.take())
 
     def test_pauses(self) -> None:
         """host: a program that crashes again and again has pauses that double; one that ran long has none"""

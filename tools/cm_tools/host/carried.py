@@ -5,39 +5,52 @@ from __future__ import annotations
 import socket
 from typing import Callable
 
-from cm_tools.host.watching import Selector, Watch, unsent
+from cm_tools.host.watching import READS, Selector, Watch, unsent
 
 # One buffer for all connections: a piece is handed on before the next one is read.
 BUFFER = memoryview(bytearray(1 << 16))
 NOW = socket.MSG_DONTWAIT
 
 
-class Way:
-    """One way: what comes at the source goes to the sink. It waits for a sink that is full.
+class End(Watch):
+    """One end, and the way from it: what comes at it goes to the other end. It waits for one that is full.
 
-    `behind` is what the sink didn't take yet.
+    `behind` is what the other end didn't take yet.
     """
 
-    __slots__ = ("carried", "source", "sink", "came", "goes", "behind", "is_over")
+    __slots__ = ("carried", "link", "other", "behind", "is_over")
+    other: End
 
-    def __init__(self, carried: Carried, source: socket.socket, sink: socket.socket, came: Watch,
-                 goes: Watch, first: bytes) -> None:
-        self.carried, self.source, self.sink, self.came, self.goes = carried, source, sink, came, goes
-        self.behind, self.is_over = first, False
+    def __init__(self, carried: Carried, watcher: Selector, link: socket.SocketType, first: bytes) -> None:
+        # As for any watch; each connection has two.
+        self.selector, self.number, self.since = watcher, link.fileno(), 0
+        self.reads = self.writes = self.hangs = self.mask = None
+        self.hung = False
+        self.carried, self.link, self.behind, self.is_over = carried, link, first, False
+
+    def begin(self) -> None:
+        """Has the loop watch for what comes, of which it may not watch for anything yet."""
+        if self.mask is not None:
+            self.on_read(self.read)
+            return
+        selector = self.selector
+        selector.epoll.register(self.number, READS)
+        self.reads, self.mask, self.since = self.read, READS, selector.turn
+        selector.watches[self.number] = self
 
     def wait(self) -> None:
-        """Has the loop watch for what comes next: that the sink takes more, or that more comes."""
+        """Has the loop watch for what comes next: that the other end takes more, or that more comes."""
         if self.behind:
-            self.came.on_read(None)
-            self.goes.on_write(self.write)
+            self.on_read(None)
+            self.other.on_write(self.write)
         else:
-            self.goes.on_write(None)
-            self.came.on_read(self.read)
+            self.other.on_write(None)
+            self.on_read(self.read)
 
     def read(self) -> None:
         """Hands on what has come."""
         try:
-            count = self.source.recv_into(BUFFER, 0, NOW)
+            count = self.link.recv_into(BUFFER, 0, NOW)
             if not count:
                 self.over()
                 return
@@ -47,7 +60,7 @@ class Way:
             self.carried.end(fault)
             return
         try:
-            sent = self.sink.send(BUFFER[:count], NOW)
+            sent = self.other.link.send(BUFFER[:count], NOW)
         except BlockingIOError:
             sent = 0
         except OSError as fault:
@@ -58,9 +71,9 @@ class Way:
             self.wait()
 
     def write(self) -> None:
-        """Hands on what the sink didn't take."""
+        """Hands on what the other end didn't take."""
         try:
-            self.behind = unsent(self.sink, self.behind)
+            self.behind = unsent(self.other.link, self.behind)
         except OSError as fault:
             self.carried.end(fault)
             return
@@ -68,46 +81,44 @@ class Way:
             self.wait()
 
     def over(self) -> None:
-        """The source has said all; the sink is told. One that is closed takes nothing more either."""
-        if self.came.hung:
+        """It has said all; the other end is told. One that is closed takes nothing more either."""
+        if self.hung:
             self.carried.end(None)
             return
         self.is_over = True
-        self.came.on_hang(self.carried.cancel)
-        self.sink.shutdown(socket.SHUT_WR)
-        self.carried.look()
+        self.on_hang(self.carried.cancel)
+        self.other.link.shutdown(socket.SHUT_WR)
+        if self.other.is_over:
+            self.carried.end(None)
 
 
 class Carried:
     """Both ways, from when it begins until both ends have said all, one is closed or broke off, or it is
-    cancelled. Then both are closed, and `then` is called at once, with the OSError where there was one."""
+    cancelled. Then both are closed, and `ended` is called at once."""
 
-    __slots__ = ("ends", "watches", "ways", "then")
+    __slots__ = ("ends",)
 
-    def __init__(self, watcher: Selector, one: socket.socket, other: socket.socket,
-                 then: Callable[[Carried, OSError | None], None], first: bytes = b"") -> None:
-        self.ends, self.then = (one, other), then
-        came, goes = self.watches = Watch(watcher, one.fileno()), Watch(watcher, other.fileno())
+    def __init__(self, watcher: Selector, one: socket.SocketType, other: socket.SocketType,
+                 first: bytes = b"") -> None:
         # What was read of the one before goes first.
-        self.ways = Way(self, one, other, came, goes, first), Way(self, other, one, goes, came, b"")
+        near, far = self.ends = End(self, watcher, one, first), End(self, watcher, other, b"")
+        near.other, far.other = far, near
 
     def begin(self) -> None:
         """Hands on from now on."""
-        there, back = self.ways
+        near, far = self.ends
         try:
-            there.wait()
-            back.wait()
+            if near.behind:
+                near.wait()
+            else:
+                # What a client said while it was decided is there already, and its provider begins with it.
+                near.read()
+            if self.ends:
+                if near.mask is None and not near.behind:
+                    near.begin()
+                far.begin()
         except OSError as fault:
             self.end(fault)
-            return
-        if not there.behind:
-            # What a client said while it was decided is there already.
-            there.read()
-
-    def look(self) -> None:
-        """Ends where both ways have ended."""
-        if self.ways[0].is_over and self.ways[1].is_over:
-            self.end(None)
 
     def cancel(self) -> None:
         """Lets both ends go."""
@@ -115,12 +126,15 @@ class Carried:
 
     def end(self, fault: OSError | None) -> None:
         """Ends it, with the fault where one end broke off."""
-        if not self.ways:
+        if not self.ends:
             return
-        # Its ways know it: without them nothing is left for a search of circles.
-        self.ways = ()
-        for one in self.watches:
-            one.drop()
         for end in self.ends:
-            end.close()
-        self.then(self, fault)
+            end.drop()
+            end.link.close()
+            # Nothing is left for a search of circles.
+            del end.other, end.carried
+        self.ends = ()
+        self.ended(fault)
+
+    def ended(self, fault: OSError | None) -> None:
+        """Is called when it has ended, with the fault where one end broke off."""

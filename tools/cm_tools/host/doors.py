@@ -3,6 +3,8 @@
 from __future__ import annotations
 
 import asyncio
+import contextlib
+import functools
 import json
 import os
 import re
@@ -18,7 +20,7 @@ from cm_tools.host.instance import Instance
 from cm_tools.host.programs import Unfit
 from cm_tools.host.realm import REPLACED, Realm
 from cm_tools.host.sandbox import Bound
-from cm_tools.host.sessions import Gone
+from cm_tools.host.sessions import Gone, Session
 
 if TYPE_CHECKING:
     from cm_tools.host.manager import Manager
@@ -48,6 +50,8 @@ class Door:
         self.loop, self.watch = asyncio.get_running_loop(), watching.Watch(doors.watcher, link.fileno())
         self.room, self.since = float(AT_ONCE), time.monotonic()
         self.taken = 0
+        # To whom the last one was connected, and at which path.
+        self.last: tuple[Instance, str] | None = None
         self.pause: asyncio.TimerHandle | None = None
         self.is_over = False
         it.tasks.add(self)
@@ -65,7 +69,8 @@ class Door:
     def let_go(self) -> None:
         """A connection has ended."""
         self.taken -= 1
-        self._watch()
+        if self.taken == CONNECTIONS - 1 or self.is_over:
+            self._watch()
 
     def _watch(self) -> None:
         """Has the loop watch for connections where more may be taken now."""
@@ -83,7 +88,7 @@ class Door:
     def _take(self) -> None:
         """Takes a connection. It is read and written without waiting, so it needn't be set so."""
         try:
-            client, _ = self.link.accept()
+            client = watching.accepted(self.link)
         except BlockingIOError:
             return
         except OSError:
@@ -103,49 +108,86 @@ class Opening:
     """A connection of a use, from when it is taken until it is open or refused.
 
     Where the manager answers at once that it is opened, and the provider listens, no more is needed. All
-    else goes on in a task.
+    else goes on in a task. While the manager decides a socket is made, and it is looked where the provider
+    of the last one listens: `far` and `place`.
     """
 
-    def __init__(self, door: Door, client: socket.socket) -> None:
+    __slots__ = ("door", "doors", "it", "client", "manager", "far", "place", "waits")
+
+    def __init__(self, door: Door, client: socket.SocketType) -> None:
         self.door, self.doors, self.it, self.client = door, door.doors, door.it, client
         self.manager: Manager | None = None
+        self.far: socket.SocketType | None = None
+        self.place: Listens | None = None
+        self.waits = False
 
     def begin(self) -> None:
         """Asks the manager."""
         runner, it = self.doors.runner, self.it
         manager = runner.manager
         if manager is not None and runner.there.is_set() and it.manager is manager:
-            self.manager = manager
-            if manager.asked.opens.ask_then(f"open @{it.inc} {self.door.path}", self._answered):
-                it.tasks.add(self)
+            self.manager, self.waits = manager, True
+            session = manager.asked.opens.ask_then(f"open @{it.inc} {self.door.path}", self._answered)
+            if session is not None:
+                # It may have been lost in this moment.
+                if self.waits:
+                    self._look(session)
                 return
         self._go_on(None)
 
+    def _look(self, session: Session) -> None:
+        """Makes ready what is needed, and looks whether the answer is there by then."""
+        self._prepare()
+        session.look()
+        self.place = None
+        if self.waits:
+            self.it.tasks.add(self)
+
+    def _prepare(self) -> None:
+        try:
+            self.far = socket.SocketType(socket.AF_UNIX, CONNECTS)
+            if self.door.last is not None:
+                self.place = place_beneath(*self.door.last)
+        except OSError:
+            # What is missing is made, or told, when the answer is there.
+            pass
+
+    def _let_far_go(self) -> None:
+        if self.far is not None:
+            self.far.close()
+            self.far = None
+
     def cancel(self) -> None:
         """The program has ended meanwhile."""
+        self.waits = False
         self.it.tasks.discard(self)
+        self._let_far_go()
         self.client.close()
         self.door.let_go()
 
     def _answered(self, reply: list[str] | None) -> None:
-        if self not in self.it.tasks:
+        if not self.waits:
             return
+        self.waits = False
         self.it.tasks.discard(self)
         manager = self.manager
         assert manager is not None
         if reply is None or not self._is_open(manager, reply[0]):
+            self._let_far_go()
             self._go_on((reply[0], manager) if reply is not None else None)
 
     def _is_open(self, manager: Manager, reply: str) -> bool:
         """Opens it where that can be done at once."""
-        provider = provider_of(manager, reply)
-        if provider is None or not provider[0].process:
+        found, far = provider_of(manager, reply), self.far
+        if found is None or far is None or not found[0].process:
             return False
         try:
-            far = connected_beneath(*provider)
+            place = self.place if found == self.door.last else None
+            connect(far, place or place_beneath(*found), *found)
         except OSError:
             return False
-        self.doors.carry(self.it, self.door.path, (self.client, far), provider[0], manager, self._ended)
+        self.far, self.door.last = None, found
+        self.doors.carry(self.it, self.door.path, (self.client, far), found[0], manager, self._ended)
         return True
 
     def _ended(self, fault: OSError | None) -> None:
@@ -154,8 +196,32 @@ class Opening:
             self.doors.broken(self.it, self.door.path, fault)
 
     def _go_on(self, first: tuple[str, Manager] | None) -> None:
-        task = self.it.task(self.doors.connect(self.it, self.client, self.door.path, first))
+        client = socket.socket(fileno=self.client.detach())
+        task = self.it.task(self.doors.connect(self.it, client, self.door.path, first))
         task.add_done_callback(lambda _: self.door.let_go())
+
+
+class Open(Carried):
+    """A connection that is open. It ends with its client's program, and with its provider's."""
+
+    __slots__ = ("doors", "it", "provider", "number", "then")
+
+    def __init__(self, doors: Doors, it: Instance, provider: Instance, number: int,
+                 then: Callable[[OSError | None], None], ends: tuple[socket.SocketType, socket.SocketType],
+                 first: bytes) -> None:
+        super().__init__(doors.watcher, *ends, first)
+        self.doors, self.it, self.provider, self.number, self.then = doors, it, provider, number, then
+        it.tasks.add(self)
+        provider.tasks.add(self)
+
+    def ended(self, fault: OSError | None) -> None:
+        """Tells the log, and who waits for it."""
+        it = self.it
+        it.tasks.discard(self)
+        self.provider.tasks.discard(self)
+        it.open.pop(self.number, None)
+        self.doors.runner.log.closed(it.moniker, self.number)
+        self.then(fault)
 
 
 class Doors:
@@ -253,32 +319,21 @@ class Doors:
         self.carry(it, path, (client, far), provider[0], manager, ended, first)
         await done
 
-    def carry(self, it: Instance, path: str, ends: tuple[socket.socket, socket.socket], provider: Instance,
-              manager: Manager, then: Callable[[OSError | None], None], first: bytes = b"") -> None:
+    def carry(self, it: Instance, path: str, ends: tuple[socket.SocketType, socket.SocketType],
+              provider: Instance, manager: Manager, then: Callable[[OSError | None], None],
+              first: bytes = b"") -> None:
         """Hands bytes on, both ways, once it stands in the log that it is opened; else both are closed. No
         descriptor is handed on: none is received. `then` is called when both have ended."""
         self.numbers += 1
-        number = self.numbers
-        if not self.runner.log.event("opened", moniker=it.moniker, path=path, manager=manager.number,
-                                     provider=provider.moniker, connection=number):
+        log, number = self.runner.log, self.numbers
+        if not log.opened(it.moniker, path, manager.number, provider.moniker, number):
             for end in ends:
                 end.close()
             then(None)
             return
-
-        def ended(carried: Carried, fault: OSError | None) -> None:
-            it.tasks.discard(carried)
-            provider.tasks.discard(carried)
-            it.open.pop(number, None)
-            self.runner.log.later("closed", moniker=it.moniker, connection=number)
-            then(fault)
-
         it.open[number] = path, provider.moniker
-        carried = Carried(self.watcher, *ends, ended, first)
-        # It ends with the one and with the other.
-        it.tasks.add(carried)
-        provider.tasks.add(carried)
-        carried.begin()
+        Open(self, it, provider, number, then, ends, first).begin()
+        log.show_opened(it.moniker, path, provider.moniker)
 
     async def open_from_outside(self, moniker: str, name: str, reader: asyncio.StreamReader,
                                 writer: asyncio.StreamWriter) -> None:
@@ -387,17 +442,28 @@ class Doors:
             self.runner.log.event("refused", moniker=it.moniker, path=path, manager=manager.number, why=reply)
 
 
-def provider_of(manager: Manager, reply: str) -> tuple[Instance, str] | None:
-    """Who provides what a manager has opened, and at which path; None where nothing is opened, or nothing
-    that was started here."""
+@functools.lru_cache(maxsize=4096)
+def source_of(reply: str) -> tuple[int, str, str] | None:
+    """What a reply says to be opened: the incarnation that provides it, its moniker, and the path; None where
+    nothing is opened, or nothing of an instance. The same replies come again and again."""
     found = OPENED.match(reply)
     if found is None or not found[3] or not reply.startswith("opened "):
         return None
-    provider = manager.instances.get(int(found[3]))
+    return int(found[3]), found[2], found[1]
+
+
+def provider_of(manager: Manager, reply: str) -> tuple[Instance, str] | None:
+    """Who provides what a manager has opened, and at which path; None where nothing is opened, or nothing
+    that was started here."""
+    source = source_of(reply)
+    if source is None:
+        return None
+    inc, moniker, path = source
+    provider = manager.instances.get(inc)
     if provider is None:
         return None
-    manager.monikers[int(found[3])] = found[2]
-    return provider, found[1]
+    manager.monikers[inc] = moniker
+    return provider, path
 
 
 def can_be_kept(rights: set[str]) -> bool:
@@ -407,20 +473,34 @@ def can_be_kept(rights: set[str]) -> bool:
     return told in (READING, READING | WRITING)
 
 
-def connected_beneath(provider: Instance, path: str) -> socket.socket:
-    """A connection to a provider's socket, for which no link is followed."""
+def place_beneath(provider: Instance, path: str) -> Listens:
+    """Where a provider listens at a path, for which no link is followed; an OSError where it doesn't."""
     place = provider.listens.get(path)
     if place is None or not place.stands():
         if place is not None:
             provider.listens.pop(path).close()
         place = provider.listens[path] = Listens(provider.out, path)
-    far = socket.socket(socket.AF_UNIX, CONNECTS)
+    return place
+
+
+def connect(far: socket.SocketType, place: Listens, provider: Instance, path: str) -> None:
+    """Connects to where a provider listens at a path; an OSError where it doesn't any more."""
     try:
         far.connect(place.name)
+    except BaseException:
+        provider.listens.pop(path).close()
+        raise
+
+
+def connected_beneath(provider: Instance, path: str) -> socket.socket:
+    """A connection to a provider's socket, for which no link is followed."""
+    place = place_beneath(provider, path)
+    far = socket.socket(socket.AF_UNIX, CONNECTS)
+    try:
+        connect(far, place, provider, path)
         return far
     except BaseException:
         far.close()
-        provider.listens.pop(path).close()
         raise
 
 

@@ -3,6 +3,7 @@
 from __future__ import annotations
 
 import contextlib
+import functools
 import hashlib
 import json
 import os
@@ -61,8 +62,8 @@ class Log:
         self.folder, self.screen, self.quiet = folder, Screen(screen), quiet
         self.snapshot: Callable[[], list[dict[str, Any]]] = list
         self.is_full, self.count_gone = False, 0
-        # Events that are written with the next one; and what has that done where none comes.
-        self.behind: list[dict[str, Any]] = []
+        # Lines that are written with the next one; and what has that done where none comes.
+        self.behind: list[str] = []
         self.is_due = False
         self.call_later: Callable[[float, Callable[[], None]], object] = lambda _, flush: flush()
         self.rooms = {word: Room(50) for word in ("opened", "refused", "broken")}
@@ -71,20 +72,28 @@ class Log:
     def event(self, word: str, **fields: Any) -> bool:
         """Writes and shows an event. False where it can't be written."""
         line = {"at": round(time.time(), 6), "event": word, **fields}
-        written = self._write(line)
-        room = self.rooms.get(word)
-        if not self.quiet and (room is None or room.take()):
-            missed = room.missed() if room is not None else 0
-            self.show(told(line) + (f" (and {missed} {word} before, which the log has)" if missed else ""))
-        return written
+        done = self._write(written(line))
+        self._tell(line)
+        return done
 
     def note(self, word: str, **fields: Any) -> bool:
         """Writes an event, and doesn't show it."""
-        return self._write({"at": round(time.time(), 6), "event": word, **fields})
+        return self._write(written({"at": round(time.time(), 6), "event": word, **fields}))
 
-    def later(self, word: str, **fields: Any) -> None:
-        """Writes an event that nobody waits for, together with the next one, or a moment later."""
-        self.behind.append({"at": round(time.time(), 6), "event": word, **fields})
+    def opened(self, moniker: str, path: str, manager: int, provider: str, connection: int) -> bool:
+        """Writes that a connection is opened. False where that can't be written."""
+        fixed = opening(moniker, path, manager, provider)
+        return self._write(f'{{"at":{time.time():.6f},{fixed}{connection}}}\n')
+
+    def show_opened(self, moniker: str, path: str, provider: str) -> None:
+        """Shows that a connection is opened, which is written already."""
+        if not self.quiet:
+            self._tell({"event": "opened", "moniker": moniker, "path": path, "provider": provider})
+
+    def closed(self, moniker: str, connection: int) -> None:
+        """Has it written that a connection is closed, together with the next event, or a moment later."""
+        self.behind.append(f'{{"at":{time.time():.6f},"event":"closed","moniker":{quoted(moniker)},'
+                           f'"connection":{connection}}}\n')
         if not self.is_due:
             self.is_due = True
             self.call_later(A_MOMENT, self.flush)
@@ -102,22 +111,32 @@ class Log:
         """Writes the events that wait. What others had written since needs no further moment for each."""
         self.is_due = False
         if self.behind:
-            self._write()
+            self._write("")
 
     def show(self, text: str) -> None:
         """Shows a line to the person who looks on."""
         if not self.quiet:
             self.screen.show(text)
 
+    def _tell(self, line: dict[str, Any]) -> None:
+        """Shows an event, where there is room for one of its word."""
+        room = self.rooms.get(line["event"])
+        if not self.quiet and (room is None or room.take()):
+            missed = room.missed() if room is not None else 0
+            self.show(told(line) + (f" (and {missed} {line['event']} before, which the log has)" if missed
+                                    else ""))
+
     def _open(self) -> None:
         how = os.O_WRONLY | os.O_APPEND | os.O_CREAT | os.O_CLOEXEC
         self.file = os.open(self.folder / EVENTS, how, 0o600)
         self.size = os.fstat(self.file).st_size
 
-    def _write(self, *lines: dict[str, Any]) -> bool:
-        """Writes events, behind those that wait. False where they can't be written."""
-        data = "".join([written(line) for line in (*self.behind, *lines)]).encode()
-        self.behind.clear()
+    def _write(self, line: str) -> bool:
+        """Writes a line, behind those that wait. False where it can't be written."""
+        if self.behind:
+            line = "".join(self.behind) + line
+            self.behind.clear()
+        data = line.encode()
         try:
             if self.size > LARGEST_LOG:
                 self._turn()
@@ -145,20 +164,20 @@ class Log:
         os.close(self.file)
         self._open()
         for line in self.snapshot():
-            self._write({"at": round(time.time(), 6), **line})
+            self._write(written({"at": round(time.time(), 6), **line}))
+
+
+@functools.lru_cache(maxsize=4096)
+def opening(moniker: str, path: str, manager: int, provider: str) -> str:
+    """What stands in the line of an opening between its time and the number of the connection. A use is
+    opened again and again."""
+    return (f'"event":"opened","moniker":{quoted(moniker)},"path":{quoted(path)},"manager":{manager},'
+            f'"provider":{quoted(provider)},"connection":')
 
 
 def written(line: dict[str, Any]) -> str:
-    """A line of the log. Each opening is one, so this is done without what a coder for all values does."""
-    parts = []
-    for key, value in line.items():
-        kind = type(value)
-        if kind is str:
-            value = quoted(value)
-        elif kind is not int and kind is not float:
-            value = ENCODER.encode(value)
-        parts.append(f'"{key}":{value}')
-    return "{" + ",".join(parts) + "}\n"
+    """A line of the log."""
+    return ENCODER.encode(line) + "\n"
 
 
 def surplus(folder: Path, kept: set[Path]) -> list[Path]:

@@ -72,7 +72,7 @@ class Session:
         self.link, self.watch, self.lines = link, watch(link), 0
         self.unsent = self.behind = b""
         self.reply, self.missing = [], 0
-        self.watch.on_read(self._read)
+        self.watch.on_read(self.look)
 
     def _lose(self) -> None:
         """The session has ended; who waits for an answer is told."""
@@ -83,9 +83,11 @@ class Session:
         while self.pending:
             self.pending.popleft()[1](None)
 
-    def _read(self) -> None:
+    def look(self) -> None:
+        """Takes what has come. Who has just asked may find the answer, and needn't wait for it."""
+        if self.link is None:
+            return
         try:
-            assert self.link is not None
             count = self.link.recv_into(BUFFER)
         except BlockingIOError:
             return
@@ -94,17 +96,17 @@ class Session:
         if not count:
             self._lose()
             return
-        data = bytes(BUFFER[:count])
-        *lines, self.behind = (self.behind + data).split(b"\n") if self.behind else data.split(b"\n")
+        *lines, self.behind = (self.behind + bytes(BUFFER[:count])).split(b"\n")
         for line in lines:
             self._take(line.decode("utf-8", "replace"))
 
     def _write(self) -> None:
         """Sends what wasn't taken, and more."""
+        assert self.link is not None and self.watch is not None
         try:
-            assert self.link is not None and self.watch is not None
             self.unsent = unsent(self.link, self.unsent)
-            self.watch.on_write(self._write if self.unsent else None)
+            if self.unsent or self.watch.writes:
+                self.watch.on_write(self._write if self.unsent else None)
         except OSError:
             self._lose()
 
@@ -213,17 +215,17 @@ class Pool:
             raise
         return await answer
 
-    def ask_then(self, line: str, then: Then) -> bool:
-        """Asks at once, with what is done with the reply. False where no session is free for it."""
+    def ask_then(self, line: str, then: Then) -> Session | None:
+        """Asks at once, with what is done with the reply. The session; None where none is free for it."""
         if not self.free or not self.free[-1].is_fresh():
-            return False
+            return None
         session = self.free.pop()
         try:
             session.send_then(line, functools.partial(self._answered, session, then))
-            return True
+            return session
         except Gone:
             self._let_go(session)
-            return False
+            return None
 
     def _answered(self, session: Session, then: Then, reply: list[str] | None) -> None:
         self._let_go(session)
@@ -247,6 +249,12 @@ class Pool:
                 turn.set_result(session)
                 return
         self.free.append(session)
+
+
+@functools.lru_cache(maxsize=1024)
+def numbers_of(reply: str) -> list[tuple[str, int]]:
+    """The numbers of actions and incarnations in a reply. Those to openings come again and again."""
+    return [(word, int(number)) for word, number in NUMBERS.findall(reply)]
 
 
 class Tally:
@@ -279,8 +287,8 @@ class Tally:
         self.texts += 4 * len(line) + 4 * len(reply[0])
         if len(reply) > 1:
             self.texts += 2 * sum(len(row) for row in reply)
-        for word, number in NUMBERS.findall(reply[0]):
-            self.number(word, int(number))
+        for word, number in numbers_of(reply[0]):
+            self.number(word, number)
 
     def number(self, word: str, number: int) -> None:
         """Keeps the highest number of an action, or of an incarnation."""

@@ -9,7 +9,6 @@ from __future__ import annotations
 import asyncio
 import contextlib
 import functools
-import math
 import os
 import select
 import selectors
@@ -20,6 +19,8 @@ from typing import Any, AsyncIterator, Callable, Coroutine, Mapping, TypeVar, Un
 
 READS, WRITES, HUNG = select.EPOLLIN, select.EPOLLOUT, select.EPOLLHUP
 MOST = 256
+# How long is waited where nothing is to be done at a time.
+FOR_EVER = -1.0
 # What is read of a pipe at once: all that it holds.
 PIECE = 1 << 16
 Result = TypeVar("Result")
@@ -73,6 +74,16 @@ class Watch:
             self.mask = None
             del self.selector.watches[self.number]
 
+    def call(self, mask: int) -> None:
+        """Calls what waits for what has come."""
+        self.hung = mask & HUNG != 0
+        if self.reads is not None and mask & ~WRITES:
+            self.reads()
+        if self.writes is not None and mask & ~READS:
+            self.writes()
+        if self.hangs is not None and self.hung:
+            self.hangs()
+
     def _tell(self) -> None:
         mask = None
         if self.reads or self.writes or self.hangs:
@@ -110,32 +121,30 @@ class Selector(selectors.BaseSelector):
         """Waits until the loop has something to do. What needs no loop is done meanwhile."""
         until = None if timeout is None else time.monotonic() + timeout
         self.is_wanted = timeout is not None and timeout <= 0
+        # epoll itself rounds up to milliseconds: it isn't asked again and again within the last one.
+        wait = FOR_EVER if timeout is None else max(0.0, timeout)
         while True:
-            found = self._once(until)
-            if found or self.is_wanted or until is not None and time.monotonic() >= until:
+            found = self._once(wait)
+            if found or self.is_wanted:
+                return found
+            if until is not None and (wait := until - time.monotonic()) <= 0:
                 return found
 
-    def _once(self, until: float | None) -> list[tuple[selectors.SelectorKey, int]]:
-        wait = -1.0
-        if until is not None:
-            # Rounded up: else it would be asked again and again within a millisecond.
-            wait = max(0.0, math.ceil((until - time.monotonic()) * 1e3) * 1e-3)
+    def _once(self, wait: float) -> list[tuple[selectors.SelectorKey, int]]:
         found: list[tuple[selectors.SelectorKey, int]] = []
-        try:
-            events = self.epoll.poll(wait, MOST)
-        except InterruptedError:
-            return found
+        events, watches = self.epoll.poll(wait, MOST), self.watches
         self.turn += 1
         for number, mask in events:
-            one = self.watches.get(number)
-            if one is not None:
-                if one.since != self.turn:
-                    _call(one, mask)
-            elif number in self.keys:
-                key = self.keys[number]
-                wanted = (selectors.EVENT_READ if mask & ~WRITES else 0) \
-                    | (selectors.EVENT_WRITE if mask & ~READS else 0)
-                found.append((key, wanted & key.events))
+            one = watches.get(number)
+            if one is None:
+                if number in self.keys:
+                    found.append(_key_of(self.keys[number], mask))
+            elif one.since != self.turn:
+                try:
+                    one.call(mask)
+                except Exception:
+                    # As with asyncio's own: what goes wrong with one socket ends nothing else.
+                    traceback.print_exc()
         return found
 
     # What asyncio asks for.
@@ -199,6 +208,12 @@ def watcher() -> Selector:
     loop = asyncio.get_running_loop()
     assert isinstance(loop, Loop)
     return loop.watcher
+
+
+def accepted(door: socket.socket) -> socket.SocketType:
+    """The next connection of a door. `accept` finds out anew each time of which family a door is, and makes
+    a socket that counts its files."""
+    return socket.SocketType(socket.AF_UNIX, socket.SOCK_STREAM, 0, door._accept()[0])
 
 
 class Listener:
@@ -288,18 +303,9 @@ def run(work: Coroutine[Any, Any, Result]) -> Result:
         loop.close()
 
 
-def _call(one: Watch, mask: int) -> None:
-    one.hung = mask & HUNG != 0
-    try:
-        if one.reads is not None and mask & ~WRITES:
-            one.reads()
-        if one.writes is not None and mask & ~READS:
-            one.writes()
-        if one.hangs is not None and one.hung:
-            one.hangs()
-    except Exception:
-        # As with asyncio's own: what goes wrong with one socket ends nothing else.
-        traceback.print_exc()
+def _key_of(key: selectors.SelectorKey, mask: int) -> tuple[selectors.SelectorKey, int]:
+    wanted = (selectors.EVENT_READ if mask & ~WRITES else 0) | (selectors.EVENT_WRITE if mask & ~READS else 0)
+    return key, wanted & key.events
 
 
 def _mask(events: int) -> int:

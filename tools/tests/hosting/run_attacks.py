@@ -3,7 +3,9 @@
 from __future__ import annotations
 
 import contextlib
+import os
 import shutil
+import socket
 import threading
 import time
 import unittest
@@ -45,8 +47,18 @@ HOLDS = {
 
 
 def attacked(base: Path, tools: Path = TOOLS) -> dict[str, str]:
-    """What the intruder says of each of its tries, with the host of these tools."""
-    host = Host(lay(base), run=base / "r", tools=tools)
+    """What the intruder says of each of its tries, with the host of these tools. Outside something listens
+    at an address of the network, and at an abstract socket."""
+    secret = f"host-secret-{os.getpid()}-{time.monotonic_ns()}"
+    with socket.create_server(("127.0.0.1", 0)) as address, socket.socket(socket.AF_UNIX) as abstract:
+        abstract.bind("\0" + secret)
+        abstract.listen(1)
+        return told_by_intruder(base, tools, address.getsockname()[1], secret)
+
+
+def told_by_intruder(base: Path, tools: Path, port: int, abstract: str) -> dict[str, str]:
+    """What the intruder says, for which this is an address and an abstract socket outside."""
+    host = Host(lay(base, port, abstract), run=base / "r", tools=tools)
     try:
         need_layers(host.text())
         host.ask("start evil")
@@ -90,10 +102,13 @@ door.listen(64)
 print("up", flush=True)
 def serve(link):
     with link:
+        last = b""
         while True:
             data, given, _, _ = socket.recv_fds(link, 100, 4)
             if not data:
+                print("closed behind", last.decode(), flush=True)
                 return
+            last = data
             print("descriptors", len(given), flush=True)
             link.sendall(b"answer\\n")
 while True:
@@ -131,6 +146,18 @@ trap '' TERM
 for i in 1 2 3 4 5; do setsid sh -c "trap '' TERM; sleep 1000000" & done
 echo up
 while :; do sleep 1; done
+"""
+KEEPS = """#!/usr/bin/python3
+import os, socket
+link = socket.socket(socket.AF_UNIX)
+link.connect("/svc/t.Door")
+link.sendall(b"hold")
+link.recv(100)
+if os.fork() == 0:
+    os.setsid()
+else:
+    print("keeps", flush=True)
+os.read(os.pipe()[0], 1)
 """
 FILLER = """#!/usr/bin/python3
 import os
@@ -216,7 +243,7 @@ HOSTILE = {
     "sender": (USES % "", SENDER), "many": (USES % "", MANY), "other": (USES % "", SENDER),
     "again": (USES % "", AGAIN), "last": (USES % NOTIFY, LAST), "daemons": (ALONE % NOTIFY, DAEMONS),
     "filler": (ALONE % "", FILLER), "files": (ALONE % "", MANY_FILES),
-    "late": (ALONE % "", DAEMONS),
+    "late": (ALONE % "", DAEMONS), "keeps": (USES % "", KEEPS),
     "grows": ('{program:{runner:"elf",binary:"bin/x"},collections:[{name:"tasks",durability:"transient"}],'
               'use:[{protocol:"fuchsia.component.Realm",from:"framework"}]}', GROWS),
 }
@@ -230,14 +257,14 @@ def lay_hostile(repo: Path) -> str:
         package(repo, name, manifest, script)
     return root_of(repo, "door", *HOSTILE, more=',collections:[{name:"jobs",durability:"transient"}],'
                    'offer:[{protocol:"t.Door",from:"#door",'
-                   'to:["#sender","#many","#other","#again","#jobs"]}]')
+                   'to:["#sender","#many","#other","#again","#keeps","#jobs"]}]')
 
 
 def descriptors(host: Host) -> str:
     """How many descriptors come through a connection."""
     host.ask("start sender")
     host.wait(r"said      sender \| sent b'answer")
-    return host.said("door").splitlines()[-1]
+    return [line for line in host.said("door").splitlines() if line.startswith("descriptors")][-1]
 
 
 def at_once(host: Host) -> str:
@@ -269,6 +296,17 @@ def daemons(host: Host) -> str:
     while (left := host.find("sleep", "1000000")) and time.monotonic() < until:
         time.sleep(0.02)
     return f"{'by force' if 'by-force' in replies[0] else replies[0]}, {'left' if left else 'none left'}"
+
+
+def kept(host: Host) -> str:
+    """Whether a connection ends with its program, also where a daemon of that holds it."""
+    host.ask("start keeps")
+    host.wait(r"said      keeps \| keeps")
+    host.ask("stop keeps")
+    until = time.monotonic() + TO_VANISH
+    while (is_kept := "closed behind hold" not in host.said("door")) and time.monotonic() < until:
+        time.sleep(0.02)
+    return "kept" if is_kept else "cut"
 
 
 def questions(host: Host) -> str:
@@ -355,18 +393,22 @@ REACHES = [("doors.py", REFUSES, """\
 # What is tried, what holds, and changes of the sources with which it doesn't.
 TRIES: dict[str, tuple[Callable[[Host], str], str, list[list[tuple[str, str, str]]]]] = {
     "descriptors are dropped": (descriptors, "descriptors 0", [[
-        ("carried.py", "            count = self.source.recv_into(BUFFER, 0, NOW)\n",
-         "            self.source.setblocking(False)\n"
-         "            piece, given, _, _ = socket.recv_fds(self.source, 1 << 16, 4)\n"
+        ("carried.py", "            count = self.link.recv_into(BUFFER, 0, NOW)\n",
+         "            self.link.setblocking(False)\n"
+         "            piece, given, _, _ = socket.recv_fds(self.link, 1 << 16, 4)\n"
          "            count, BUFFER[:len(piece)] = len(piece), piece\n"),
-        ("carried.py", "            sent = self.sink.send(BUFFER[:count], NOW)\n",
-         "            sent = socket.send_fds(self.sink, [BUFFER[:count]], given)\n")]]),
+        ("carried.py", "            sent = self.other.link.send(BUFFER[:count], NOW)\n",
+         "            sent = socket.send_fds(self.other.link, [BUFFER[:count]], given)\n")]]),
     "a use has 32 connections at once": (at_once, "held 32", [[
         ("doors.py", LIMITS, LIMITS.replace("32", "40"))]]),
     "who heeds no stop ends by force, and its daemons with it": (daemons, "by force, none left", [
         [("sandbox.py", "GRACE = 2.0", "GRACE = 1e6")],
         [("sandbox.py", '"--unshare-all", "--unshare-user",',
           '"--unshare-user", "--unshare-ipc", "--unshare-net", "--unshare-uts",')]]),
+    "what a daemon holds is cut": (kept, "cut", [[
+        ("sandbox.py", '"--unshare-all", "--unshare-user",',
+         '"--unshare-user", "--unshare-ipc", "--unshare-net", "--unshare-uts",'),
+        ("instance.py", "            task.cancel()\n", "            pass\n")]]),
     "a realm's questions are limited in a second": (questions, "busy with few", [[
         ("realm.py", "AT_ONCE, A_SECOND = 200, 20", "AT_ONCE, A_SECOND = 1000, 20")]]),
     "all folders together have 256 MB": (filled, "within 256 MB", [[

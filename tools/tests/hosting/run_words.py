@@ -9,10 +9,12 @@ import os
 import shutil
 import signal
 import unittest
+from concurrent.futures import ThreadPoolExecutor
 from pathlib import Path
 
 from cm_tools.host.reports import known_words
-from tests.hosting.trial import Host, folder, package, program, root_of
+from tests.hosting.edits import STORED, changed
+from tests.hosting.trial import TOOLS, Host, folder, package, program, root_of
 
 P = '{program:{runner:"%s",binary:"bin/x"}%s}'
 COUNTS = """#!/usr/bin/python3
@@ -24,13 +26,14 @@ with open("/data/count", "a+") as file:
 os.read(os.pipe()[0], 1)
 """
 FILLS = """#!/usr/bin/python3
-import os
+import time
 print("fills", flush=True)
-count = 0
-while True:
+for count in range(200):
     with open(f"/data/{count % 64}", "wb") as file:
         file.write(bytes(1 << 20))
-    count += 1
+    time.sleep(0.05 if count > 64 else 0)
+print("goes on", flush=True)
+time.sleep(1000000)
 """
 HIDES = """#!/usr/bin/python3
 import os, time
@@ -38,9 +41,11 @@ print("hides", flush=True)
 os.mkdir("/data/hidden")
 with open("/data/hidden/x", "wb", buffering=0) as file:
     os.chmod("/data/hidden", 0)
-    while True:
+    for count in range(40):
         file.write(bytes(1 << 20))
         time.sleep(0.2)
+print("goes on", flush=True)
+time.sleep(1000000)
 """
 SLEEP = "#!/bin/sh\necho up\nexec sleep 1000000\n"
 USES = ',use:[{storage:"data",path:"/data"}]'
@@ -67,8 +72,8 @@ class Storage(unittest.TestCase):
                 '{storage:"bad",from:"self",to:"#wants",as:"data"}]')
         return root_of(repo, "fs", "weak", "client", "other", "fills", "hides", "wants", more=more)
 
-    def begin(self, base: Path, root: str) -> Host:
-        host = Host(base / "repo", root, run=base / "r",
+    def begin(self, base: Path, root: str, tools: Path = TOOLS) -> Host:
+        host = Host(base / "repo", root, run=base / "r", tools=tools,
                     environment={"COMPONENT_HOST_STORAGE_BYTES": str(16 << 20)})
         self.addCleanup(host.remove)
         return host
@@ -128,6 +133,25 @@ class Storage(unittest.TestCase):
         self.assertIn("client", host.on())
         self.assertEqual(host.end(), 0)
         self.assertEqual(host.left(), [])
+
+
+    @unittest.skipUnless("storage" in WORDS, "the component manager doesn't know the word storage")
+    def test_taken_away(self) -> None:
+        """who fills its storage, or hides what lies there, goes on where nobody looks"""
+        with ThreadPoolExecutor(len(STORED)) as pool:
+            for name, ended in zip(STORED, pool.map(self.without, STORED)):
+                self.assertFalse(ended, name)
+
+    def without(self, name: str) -> bool:
+        """Whether this program is ended by a host without what ends it."""
+        base = folder()
+        self.addCleanup(shutil.rmtree, base, True)
+        host = self.begin(base, self.lay(base), changed(base, name, STORED[name]))
+        host.ask(f"start {name}")
+        host.wait(rf"said      {name} \| goes on|^exited    {name}")
+        goes_on = "goes on" in host.said(name)
+        host.remove()
+        return not goes_on
 
 
 class Environments(unittest.TestCase):

@@ -59,8 +59,9 @@ def root_of(repo: Path, *names: str, more: str = "", host: str = "t") -> str:
     return package(repo, "root", f"{{children:[{children}]{more}}}", host=host)
 
 
-def lay(base: Path) -> Path:
-    """A copy of the example, in which the intruder is told where the manager's sockets are."""
+def lay(base: Path, port: int = 22, abstract: str = "host-secret") -> Path:
+    """A copy of the example, in which the intruder is told where the manager's sockets are, and an address
+    and an abstract socket of this system."""
     repo = base / "repo"
     shutil.copytree(EXAMPLE, repo)
     for manifest in repo.glob("demo/*/meta/*.cm"):
@@ -70,7 +71,10 @@ def lay(base: Path) -> Path:
             sockets = f'"{base}/r/cm"'
             if "intruder" in manifest.name:
                 sockets += f', "{base}/r/live/m1/manager"'
-            manifest.write_text(text.replace('"HOST_SOCKET"', sockets))
+            for old, new in (('"HOST_SOCKET"', sockets), ("PORT=22", f"PORT={port}"),
+                             ("ABSTRACT=host-secret", f"ABSTRACT={abstract}")):
+                text = text.replace(old, new)
+            manifest.write_text(text)
     return repo
 
 
