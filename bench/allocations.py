@@ -149,15 +149,15 @@ class Session:
         return process.returncode, sent.decode(), err.decode()
 
 
-def session_at(path, process):
-    """All that a server sends to one client, or nothing where it ends before."""
+def session_at(path, process, lines=SESSION):
+    """All that a server sends to one client with these lines, or nothing where it ends before."""
     try:
         link = connected(path, PATIENCE, process.poll, PATIENCE)
     except (FileNotFoundError, ConnectionRefusedError):
         return b""
     with link:
         try:
-            link.sendall(SESSION.encode())
+            link.sendall(lines.encode())
             return b"".join(iter(lambda: link.recv(65536), b""))
         except (BrokenPipeError, ConnectionResetError):
             return b""

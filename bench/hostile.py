@@ -1,23 +1,36 @@
 #!/usr/bin/env python3
-"""Prints what realms cost that are as bad as the limits let them be, at two sizes each.
+"""Prints what realms cost that are as bad as the limits let them be, at one or two sizes each.
 
 A realm that is filled until it is refused, a history filled to its last entry, chains of instances, a
-manifest with itself as an eager child, once and twice, offers from the parent through many levels, siblings
-that are each given something of the one before, a name of 255 bytes below each of many parents, names that
-differ in their last bytes alone, sections with as many rows as they may have, a child that is created and
-destroyed again and again, and a wide realm that is told again and again. The columns are those of
-bench/scale.py, whose options these are, and behind them how often the cost of a command at the smaller size
-goes into that at the larger one: 1.0 where the work grows with what it goes over. Where one command goes
-over the whole realm, each instance, row or level counts as one. A manifest with itself as an eager child
-fills the realm, so it has one size.
+manifest with itself as an eager child, once and twice, a survey of monikers that are longer than one that is
+read may be, offers from the parent through many levels, siblings that are each given something of the one
+before, a name of 255 bytes below each of many parents, names that differ in their last bytes alone, sections
+with as many rows as they may have, a child that is created and destroyed again and again, and a wide realm
+that is told again and again.
 
-Usage: bench/hostile.py [--instructions] [--seconds N] [--only WORD] [PROGRAM [OTHER]]
+Of each program a row has what the case costs above its base, in seconds and in microseconds a command, and
+the most megabytes that the whole run held. Behind them stands how often the second program's cost goes into
+that of the first, with a `!` where that is more than three times, or a `?` where the second's is less than a
+hundredth of a second, and the same of the megabytes. The last column says how often the cost of a command at
+the smaller size goes into that at the larger one: 1.0 where the work grows with what it goes over. Where one
+command goes over the whole realm, each instance, row or level counts as one. A manifest with itself as an
+eager child fills the realm, so it has one size.
+
+The options are those of bench/scale.py. A run that takes longer than --seconds is ended: `time`. One whose
+address space (--gigabytes) is too small for it: `memory`.
+
+Usage: bench/hostile.py [--instructions] [--runs N] [--seconds N] [--gigabytes N] [--only WORD]
+                        [PROGRAM [OTHER]]
 """
 
+import os
+
 import scale
-from scale import PACKAGE, Case, cost, manifest, shown
+from scale import PACKAGE, Case, manifest, measured, ratio_of, shown
 
 LONG = 255
+# How many times the other program's cost is marked, and how many seconds are too few to say so.
+TIMES, LITTLE = 3, 0.01
 LEAF = '{"program":{"runner":"gen"}}'
 COLLECTION = '{"collections":[{"name":"k","durability":"transient"}]}'
 EXPOSING = '{"capabilities":[{"protocol":"p"}],"expose":[{"protocol":"p","from":"self"}]}'
@@ -80,6 +93,23 @@ def itself(size):
     yield Case("itself: destroy", size, text + "0 destroy k:c\n", text, commands=size)
 
 
+def long_chain(size):
+    """One instance below the other, each eager, by names of a byte: the deeper ones have monikers longer than
+    one that is read may be, and their texts come to the square of the depth."""
+    others = [(f"{it}", f'{{"children":[{EAGER % ("c", it + 1)}],"program":{{"runner":"gen"}}}}')
+              for it in range(size)]
+    started = root(others[0][1], *others[1:], (f"{size}", LEAF)) + "0 start .\n"
+    yield Case("a long chain: survey", size, started + "0 survey .\n", started, commands=size)
+    yield Case("a long chain: shutdown", size, started + "0 shutdown .\n", started, commands=size)
+
+
+def whole_chain(size):
+    """The same of a chain that fills the realm, of one manifest: its survey has four gigabytes."""
+    again = f'{{"children":[{EAGER % ("c", "root")}],"program":{{"runner":"gen"}}}}'
+    started = manifest("root", again) + f"root {PACKAGE}root.cm\n0 start .\n"
+    yield Case("itself: survey", size, started + "0 survey .\n", started, commands=size)
+
+
 def itself_twice(size):
     """A manifest with itself as two eager children: a start fills the realm."""
     again = f'{{"children":[{EAGER % ("c", "a")},{EAGER % ("d", "a")}],"program":{{"runner":"gen"}}}}'
@@ -99,12 +129,30 @@ def long_monikers(size):
 
 
 def offered_on(size):
-    """What the parent offers is offered on by each level of a full chain, and used at one of them."""
-    offer = '"offer":[{"protocol":"p","from":"parent","to":"#c"}]'
-    text = f'{{"children":[{EAGER % ("c", "root")}],{offer},"use":[{{"protocol":"p"}}]}}'
-    text = manifest("root", text) + f"builtin protocol p\nroot {PACKAGE}root.cm\n0 start .\n"
-    lines = f"0 route @{size} /svc/p\n" * 4
-    yield Case("route through levels", size, text + lines, text, commands=4 * size)
+    """What the parent offers is offered on by each level of a chain of eager children, more than a moniker
+    that is read can name, and used by each: the last one's use is asked for by its number."""
+    text = '{"children":[%s],"offer":[%s],"use":[{"protocol":"p"}],"program":{"runner":"gen"}}'
+    offer = '{"protocol":"p","from":"parent","to":"#c"}'
+    others = [(f"{it}", text % (EAGER % ("c", it + 1), offer)) for it in range(size)]
+    others.append((f"{size}", text % ("", "")))
+    started = "builtin protocol p\n" + root(others[0][1], *others[1:]) + "0 start .\n"
+    yield Case("offers: route", size, started + f"0 route @{size} /svc/p\n" * 8, started, commands=8 * size)
+    yield Case("offers: open", size, started + f"0 open @{size} /svc/p\n" * 100, started,
+               commands=100 * size)
+
+
+def levels(size):
+    """Offers from the parent through so many levels of a chain that nothing starts by itself: the last one is
+    started by its moniker, all are surveyed, and the last one's use is opened."""
+    offer = '"offer":[{"protocol":"p","from":"parent","to":"#c"}],"use":[{"protocol":"p"}]'
+    text = f'{{"children":[{{"name":"c","url":"#meta/root.cm"}}],{offer},"program":{{"runner":"gen"}}}}'
+    text = manifest("root", text) + f"builtin protocol p\nroot {PACKAGE}root.cm\n"
+    last = "/".join(["c"] * size)
+    started = text + f"0 start {last}\n"
+    yield Case("levels: start the last", size, started, text, commands=size)
+    yield Case("levels: survey", size, started + "0 survey .\n" * 10, started, commands=10 * size)
+    yield Case("levels: open", size, started + f"0 open {last} /svc/p\n" * 100, started,
+               commands=100 * size)
 
 
 def siblings(size):
@@ -119,18 +167,31 @@ def siblings(size):
     chosen = [it * 7919 % size for it in range(0, size, 8)]
     lines = "".join(f"0 destroy k:c{it}\n" for it in chosen)
     yield Case("destroy among siblings", size, made + lines, made, commands=len(chosen))
+    lines = "".join(f"0 destroy k:c{it}\n" for it in range(size))
+    yield Case("destroy siblings in order", size, made + lines, made, commands=size)
     rings = made + "0 destroy k:c0\n"
     refused = given % (0, size - 1) * 20
     yield Case("rings of siblings", size, rings + refused, rings, commands=20 * size)
 
 
-def wide(times):
-    """A wide realm is told again and again: what is kept of each reply shows in the megabytes."""
+def told(what, children, times):
+    """A realm with so many children is told again and again: what is kept of each reply shows in the
+    megabytes."""
     text = root(COLLECTION) + "0 start .\n"
-    text += "".join(f"0 create . k c{it} #meta/x.cm\n" for it in range(65535))
+    text += "".join(f"0 create . k c{it} #meta/x.cm\n" for it in range(children))
     for command in ("survey .", "list . k", "doctor ."):
         lines = f"0 {command}\n" * times
-        yield Case(f"wide: {command}", times, text + lines, text, commands=65535 * times)
+        yield Case(f"{what}: {command}", times, text + lines, text, commands=children * times)
+
+
+def wide(times):
+    """A realm that is as wide as it may be."""
+    yield from told("wide", 65535, times)
+
+
+def often(times):
+    """A realm of 4,096, told more often."""
+    yield from told("told often", 4095, times)
 
 
 def namesakes(size):
@@ -181,14 +242,18 @@ KINDS = (
     (full_history, (524288, 4194304)),
     (chain, (250, 2000)),
     (itself, (65536,)),
+    (whole_chain, (65536,)),
     (itself_twice, (65536,)),
+    (long_chain, (2048, 8192)),
     (long_monikers, (250, 2000)),
     (offered_on, (512, 4096)),
+    (levels, (500, 2000)),
     (siblings, (8000, 64000)),
     (namesakes, (1000, 8000)),
     (alike, (1000, 8000)),
     (rows, (2048, 16384)),
     (again, (12500, 100000)),
+    (often, (100, 1000)),
     (wide, (5, 50)),
 )
 
@@ -200,21 +265,37 @@ def cases():
             yield from pair
 
 
+def marked(found, options):
+    """How often the second program's cost and memory go into the first one's, with a mark where the cost does
+    so too often."""
+    ratio = ratio_of(found)
+    if ratio is None:
+        return " " * 14
+    mark = "!" if ratio > TIMES else " "
+    if not options.instructions and found[1].work < LITTLE:
+        mark = "?"
+    held = found[0].megabytes / found[1].megabytes if found[1].megabytes else 0
+    return f"{ratio:>6.1f}{mark}{held:>6.1f} "
+
+
 def main():
     options, programs = scale.options_of(__doc__)
-    smaller = {}
+    print(f"a run may take {options.seconds:.0f} s and {options.gigabytes:g} GB of address space; behind: "
+          f"the ratios of cost, marked (!) above {TIMES}, and of megabytes, and the growth")
+    smaller, too_long = {}, set()
     for case in cases():
         if options.only not in case.kind:
             continue
-        found = [cost(it, case, options) for it in programs]
+        found = [measured(it, case, too_long, options) for it in programs]
         growth = ""
-        if found[0] is not None:
+        if not found[0].lacks:
             each = found[0].work / case.commands
-            if case.kind in smaller and smaller[case.kind] > 0:
-                growth = f"{each / smaller[case.kind]:>8.1f}"
+            if smaller.get(case.kind, 0) > 0:
+                growth = f"{each / smaller[case.kind]:.1f}"
             smaller[case.kind] = each
-        row = " |".join(shown(it, case, options) for it in found)
-        print(f"{case.kind:<25} {case.size:>8} |{row} |{growth}", flush=True)
+        row = " |".join(shown(it, case) for it in found)
+        print(f"{case.kind:<29} {case.size:>7} |{row} |{marked(found, options)}|{growth:>6}", flush=True)
+    print(f"the load of the last minute: {os.getloadavg()[0]:.1f} on {os.cpu_count()} processors")
 
 
 if __name__ == "__main__":

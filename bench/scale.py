@@ -3,17 +3,22 @@
 
 Each case is a script whose run is measured less that of its base: what the realm takes to be made is
 measured by a script without the commands, and taken off. Times are the processor's seconds of the least
-of three runs; with --instructions they are counted by valgrind (millions), which is the same each time.
-The other program, if one is named, has to run the same scripts (`PROGRAM run < SCRIPT`,
-`PROGRAM check < MANIFEST`). A case that takes longer than --seconds is shown as `-`, and larger ones of
-its kind aren't tried.
+of three runs (--runs), or of one where that takes more than ten; with --instructions they are counted by
+valgrind (millions), which is the same each time. The other program, if one is named, has to run the same
+scripts (`PROGRAM run < SCRIPT`, `PROGRAM check < MANIFEST`). A run that takes more of the processor's seconds
+than --seconds is ended and shown as `time`, and larger ones of its kind aren't tried (`-`). One that ends for
+want of the address space that it may have (--gigabytes) is shown as `memory`.
 
-Usage: bench/scale.py [--instructions] [--seconds N] [--only WORD] [PROGRAM [OTHER]]
+Usage: bench/scale.py [--instructions] [--runs N] [--seconds N] [--gigabytes N] [--only WORD]
+                      [PROGRAM [OTHER]]
 """
 import argparse
+import math
 import os
 import re
+import resource
 import shutil
+import signal
 import subprocess
 import sys
 import tempfile
@@ -23,6 +28,12 @@ from dataclasses import dataclass, field
 HERE = os.path.dirname(os.path.abspath(__file__))
 BUILT = os.path.join(HERE, "..", "component_manager")
 PACKAGE = "fuchsia-pkg://bench/p#meta/"
+# A run is made once where it takes longer than so many seconds.
+LONG = 10
+# How many times its processor's seconds a run may take by the clock.
+CLOCK = 30
+# What the bases of cases took: several cases have one.
+BASES = {}
 
 
 @dataclass
@@ -39,10 +50,12 @@ class Case:
 
 @dataclass
 class Cost:
-    """What a run took: seconds (or millions of instructions), and megabytes at its highest."""
+    """What a run took: seconds (or millions of instructions), and megabytes at its highest; or why it has no
+    number."""
 
     work: float
     megabytes: float = field(default=0.0)
+    lacks: str = ""
 
 
 def manifest(name, text):
@@ -164,7 +177,7 @@ def cases():
 
 
 def run(program, words, text, options):
-    """The cost of one run of a program over a text, or nothing where it took too long."""
+    """The cost of one run of a program over a text."""
     with tempfile.TemporaryDirectory() as folder:
         path, counted = os.path.join(folder, "in"), os.path.join(folder, "counted")
         with open(path, "w") as file:
@@ -174,13 +187,23 @@ def run(program, words, text, options):
             command = ["valgrind", "--tool=cachegrind", "--cache-sim=no", "--cachegrind-out-file=/dev/null",
                        f"--log-file={counted}", *command]
         with open(path) as source:
-            child = subprocess.Popen(command, stdin=source, stdout=subprocess.DEVNULL)
+            child = subprocess.Popen(command, stdin=source, stdout=subprocess.DEVNULL,
+                                     stderr=subprocess.PIPE, preexec_fn=lambda: bounded(options))
             found = ended(child, options.seconds)
-        if found and options.instructions:
+        if not found.lacks and options.instructions:
             with open(counted) as file:
                 told = re.search(r"I *refs: *([\d,]+)", file.read())
             found.work = int(told[1].replace(",", "")) / 1e6
         return found
+
+
+def bounded(options):
+    """Of a child, before its program: what it may have, and no file of what it was when it was killed."""
+    size, seconds = int(options.gigabytes * 2**30), math.ceil(options.seconds)
+    if not options.instructions:
+        resource.setrlimit(resource.RLIMIT_AS, (size, size))
+        resource.setrlimit(resource.RLIMIT_CPU, (seconds, seconds))
+    resource.setrlimit(resource.RLIMIT_CORE, (0, 0))
 
 
 def memory(pid):
@@ -194,37 +217,65 @@ def memory(pid):
 
 
 def ended(child, seconds):
-    """What a process used when it has ended; nothing, and it is ended, where it takes too long."""
-    until, highest = time.monotonic() + seconds, 0.0
-    while time.monotonic() < until:
-        highest = max(highest, memory(child.pid))
-        pid, status, usage = os.wait4(child.pid, os.WNOHANG)
-        if pid:
-            if os.waitstatus_to_exitcode(status) != 0:
-                sys.exit(f"{child.args[0]} ended with status {os.waitstatus_to_exitcode(status)}")
-            child.returncode = 0
-            return Cost(usage.ru_utime + usage.ru_stime, highest)
-        time.sleep(0.005)
-    child.kill()
-    child.wait()
-    return None
+    """What a process used when it has ended; it is ended where it takes too long, by the clock too, as
+    where it waits for something that doesn't come."""
+    begun, highest, passed = time.monotonic(), 0.0, 0.0
+    with child.stderr:
+        while passed < CLOCK * seconds:
+            highest = max(highest, memory(child.pid))
+            pid, status, usage = os.wait4(child.pid, os.WNOHANG)
+            if pid:
+                child.returncode = os.waitstatus_to_exitcode(status)
+                return Cost(usage.ru_utime + usage.ru_stime, peak(usage, highest), lack(child))
+            passed = time.monotonic() - begun
+            time.sleep(min(0.005, 0.0005 + passed / 20))
+        child.kill()
+        child.wait()
+    return Cost(0, highest, "time")
+
+
+def peak(usage, seen):
+    """The most megabytes of a child that has ended. The system counts what this process had when the child
+    began, so where that isn't less, what was seen from time to time counts."""
+    told = usage.ru_maxrss / 1024
+    return told if told > resource.getrusage(resource.RUSAGE_SELF).ru_maxrss / 1024 else seen
+
+
+def lack(child):
+    """Why a child that has ended has no number, if it hasn't: its memory ran out."""
+    if child.returncode == 0:
+        return ""
+    if child.returncode in (2, 7):
+        sys.exit(f"{child.args[0]} refuses its words or its script: {child.stderr.read(200).decode()}")
+    if child.returncode in (-signal.SIGXCPU, -signal.SIGKILL):
+        return "time"
+    return "memory" if child.returncode in (6, -signal.SIGABRT) else f"status {child.returncode}"
 
 
 def least(program, words, text, options):
-    found = [run(program, words, text, options) for _ in range(1 if options.instructions else 3)]
-    return None if None in found else min(found, key=lambda it: it.work)
+    """The cheapest of some runs, or the first one where that has no number or took long."""
+    found = []
+    while len(found) < (1 if options.instructions else options.runs):
+        found.append(run(program, words, text, options))
+        if found[-1].lacks or found[-1].work > LONG:
+            break
+    return min(found, key=lambda it: (bool(it.lacks), it.work))
 
 
 def cost(program, case, options):
     """What the case costs above its base, and its highest memory."""
     whole = least(program, case.words, case.script, options)
-    base = least(program, case.words, case.base, options) if case.base and whole else Cost(0)
-    return None if whole is None or base is None else Cost(whole.work - base.work, whole.megabytes)
+    if whole.lacks or not case.base:
+        return whole
+    key = program, case.words, hash(case.base)
+    if key not in BASES:
+        BASES[key] = least(program, case.words, case.base, options)
+    return Cost(whole.work - BASES[key].work, whole.megabytes, BASES[key].lacks)
 
 
-def shown(found, case, options):
-    if found is None:
-        return f"{'-':>10} {'-':>10} {'-':>8}"
+def shown(found, case):
+    if found.lacks:
+        return f"{found.lacks:>10} {'-':>10} {found.megabytes:>8.0f}"
     each = found.work / case.commands * 1e6
     return f"{found.work:>10.3f} {each:>10.1f} {found.megabytes:>8.0f}"
 
@@ -233,7 +284,9 @@ def options_of(text):
     """What the words of the command line ask for, and the programs; prints the head of the table."""
     parser = argparse.ArgumentParser(description=text.split("\n", maxsplit=1)[0])
     parser.add_argument("--instructions", action="store_true", help="count instructions, with valgrind")
-    parser.add_argument("--seconds", type=float, default=60, help="the most that one run may take")
+    parser.add_argument("--runs", type=int, default=3, help="of which the cheapest counts")
+    parser.add_argument("--seconds", type=float, default=60, help="the most processor seconds of a run")
+    parser.add_argument("--gigabytes", type=float, default=8, help="the most address space of a run")
     parser.add_argument("--only", default="", help="cases of which the kind has this word")
     parser.add_argument("programs", nargs="*", metavar="PROGRAM")
     options = parser.parse_args()
@@ -244,19 +297,34 @@ def options_of(text):
     return options, options.programs or [BUILT]
 
 
+def measured(program, case, too_long, options):
+    """What the case costs a program, unless a smaller one of its kind took too long."""
+    if (program, case.kind) in too_long:
+        return Cost(0, 0, "-")
+    found = cost(program, case, options)
+    if found.lacks:
+        too_long.add((program, case.kind))
+    return found
+
+
+def ratio_of(found):
+    """How often the second cost goes into the first one; nothing where one of them has no number."""
+    if len(found) < 2 or any(it.lacks for it in found) or found[1].work <= 0:
+        return None
+    return found[0].work / found[1].work
+
+
 def main():
     options, programs = options_of(__doc__)
     too_long = set()
     for case in cases():
         if options.only not in case.kind:
             continue
-        found = [None if (it, case.kind) in too_long else cost(it, case, options) for it in programs]
-        too_long |= {(it, case.kind) for it, each in zip(programs, found) if each is None}
-        ratio = ""
-        if len(found) > 1 and None not in found and found[1].work > 0:
-            ratio = f"{found[0].work / found[1].work:>8.1f}"
-        row = " |".join(shown(it, case, options) for it in found)
-        print(f"{case.kind:<20} {case.size:>6} |{row} |{ratio}", flush=True)
+        found = [measured(it, case, too_long, options) for it in programs]
+        ratio = ratio_of(found)
+        row = " |".join(shown(it, case) for it in found)
+        told = "" if ratio is None else f"{ratio:>8.1f}"
+        print(f"{case.kind:<20} {case.size:>6} |{row} |{told}", flush=True)
 
 
 if __name__ == "__main__":

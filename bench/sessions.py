@@ -4,14 +4,16 @@ a time, and 32 at a time. Beside it stand the same commands from as many lanes o
 redis server over a Unix socket by the same clients in the same run, where redis-server is there. Then comes
 what a session that waits and a link that was served take of the server's memory, and the machine's load.
 
-    bench/sessions.py [PROGRAM]
+    bench/sessions.py [PROGRAM [LOAD]]
 
 The realm has 100 instances, which are resolved and started before; the commands show and route in turns. Each
 client is a process of its own. The clients are written in Python, and take most of the time: only what stands
-in one run can be compared.
+in one run can be compared. With LOAD they are threads of that native client, which is called with the words
+`SOCKET CLIENTS COUNT AT-ONCE LINES COMMAND..` and prints `N commands/s`.
 """
 
 import os
+import re
 import shutil
 import subprocess
 import sys
@@ -24,7 +26,11 @@ sys.path.insert(0, os.path.join(HERE, "..", "tools"))
 
 from cm_tools import meeting
 
+if len(sys.argv) > 3:
+    print("usage: sessions.py [PROGRAM [LOAD]]", file=sys.stderr)
+    sys.exit(2)
 PROGRAM = os.path.abspath(sys.argv[1] if len(sys.argv) > 1 else os.path.join(HERE, "..", "component_manager"))
+LOAD = os.path.abspath(sys.argv[2]) if len(sys.argv) > 2 else ""
 ROOT = "fuchsia-pkg://bench/p#meta/root.cm"
 INSTANCES = 100
 COMMANDS = 32_000
@@ -94,8 +100,22 @@ def client(path, process, requests, together, lines, begin):
     link.close()
 
 
-def measure(path, process, parts, together, lines):
+def by_load(path, requests, clients, together, lines):
+    """Commands per second of the native client's threads, each with its share of the requests."""
+    words = [LOAD, path, str(clients), str(len(requests) // clients), str(together), str(lines)]
+    commands = list(dict.fromkeys(it.decode().removesuffix("\n") for it in requests))
+    done = subprocess.run([*words, *commands], capture_output=True, text=True, check=False)
+    found = re.search(r"(\d+) commands/s", done.stdout)
+    if done.returncode or not found:
+        sys.exit(f"{LOAD} ended with {done.returncode}: {done.stderr.strip()}")
+    return float(found[1])
+
+
+def measure(path, process, requests, clients, together, lines):
     """Commands per second of all clients together."""
+    if LOAD:
+        return by_load(path, requests, clients, together, lines)
+    parts = [requests[at::clients] for at in range(clients)]
     begin, go = os.pipe()
     children = []
     for part in parts:
@@ -116,10 +136,6 @@ def measure(path, process, parts, together, lines):
     return sum(len(part) for part in parts) / seconds
 
 
-def parts_of(requests, clients):
-    return [requests[at::clients] for at in range(clients)]
-
-
 def sessions(folder, clients, together):
     """The program's sessions: a first one that starts all instances, and then the measured ones."""
     path = os.path.join(folder, "s")
@@ -129,7 +145,7 @@ def sessions(folder, clients, together):
         with connected(path, process) as link:
             ask(link, [f"start {name}\n".encode() for name in names()], 1)
         requests = [f"{command(number)}\n".encode() for number in range(COMMANDS)]
-        speed = measure(path, process, parts_of(requests, clients), together, 1)
+        speed = measure(path, process, requests, clients, together, 1)
         if process.wait(60):
             sys.exit(f"the server ended with {process.returncode}")
     return speed
@@ -161,7 +177,7 @@ def redis(folder, clients, together):
         with connected(path, process) as link:
             ask(link, [f"SET {name} {'v' * 60}\r\n".encode() for name in names()], 1)
         requests = [f"GET {names()[number % (INSTANCES - 1)]}\r\n".encode() for number in range(COMMANDS)]
-        speed = measure(path, process, parts_of(requests, clients), together, 2)
+        speed = measure(path, process, requests, clients, together, 2)
         process.terminate()
     return speed
 
