@@ -1,5 +1,6 @@
 -- Inside.
--- Readers that several fields of two words share.
+-- Readers of fields that several fields share: those that say one of two words, as `startup` says `lazy` or
+-- `eager`, and those that say `parent` alone.
 use Rattle.std.specs.Prelude.{ℕ, List, Bool, true, false, Option, Some, None}
 use Rattle.std.specs.Prelude.{if◌then◌else◌}
 use Rattle.std.specs.Str.{bytes_eq}
@@ -10,7 +11,7 @@ use Rattle.cm_read.specs.Reading.{ReadResult}
 use Rattle.cm_read.specs.Fields.{or_default, listed_at}
 use Rattle.cm_read.specs.Words.{expose_target_named}
 
--- what one of two words says: false for the first, true for the second
+-- which of two words the text is: false for the first, true for the second, none for any other text
 abbrev pub flag_named : List ℕ → List ℕ → List ℕ → Option Bool
 flag_named off on t =
     if bytes_eq t off then Some false

@@ -4,8 +4,8 @@ ghost use Rattle.cm_read.specs.Both as spec;
 
 use crate::fault::ReadFault;
 
-/// Both values, or the first fault. Who reads several fields reads them all and then asks for the first
-/// fault, so that nothing is let go at each field.
+/// Both values, or the first fault. Readers of items read all fields, and nest calls of this: so values that
+/// were read beside a fault are dropped here, and not at each field.
 pub fn both<A: Drop, B: Drop>(
     first: Result<A, ReadFault>,
     second: Result<B, ReadFault>,

@@ -5,7 +5,7 @@ ghost use Rattle.std.specs.List.{list_any};
 ghost use Rattle.std.specs.Str.{bytes_eq};
 ghost use Rattle.serde_json.specs.View.{view, members_view, items_view};
 ghost use Rattle.cm_read.specs.Fields as spec;
-ghost use Rattle.cm_read.specs.FieldsInside.{map_now};
+ghost use Rattle.cm_read.specs.FieldsInside.{map_now, listed_texts_at, listed_names_at, listed_references_at};
 ghost use Rattle.cm_read.specs.ReadingInside.{GivesReading, GivesBy};
 
 use crate::fault::{ItemPlace, ReadFault, fault};
@@ -173,24 +173,39 @@ fn texts_in(
     Ok(texts)
 }
 
-/// A text, or a list of one or more texts.
-#[tactic(auto, unfolding(crate::specs::Fields::texts_at))]
-fn texts_of(alloc: Global, at: ItemPlace, value: &Value, key: &str) -> Result<List<Text>, ReadFault>
-    ensures { GivesReading result (spec.texts_at at key.now (view value.now)) }
+/// The texts that the values are, borrowed.
+fn words_in<'a>(
+    alloc: Global,
+    at: ItemPlace,
+    values: &'a [Value],
+    key: &str,
+) -> Result<Vec<&'a str>, ReadFault>
+    ensures { GivesBy (λ words. map_now words.items) result
+        (spec.texts_in_at at key.now (items_view values.now)) }
 {
-    match value {
-        Value::Array(values) => {
-            let texts = texts_in(alloc, at, values.as_slice(), key)?;
-            if texts.len() == 0 {
-                return Err(fault(alloc, at, WRONG_TYPE, key));
-            }
-            Ok(texts)
-        }
-        _ => {
-            let text = text_of(alloc, at, value, key)?;
-            one_row(alloc, Text::from_str(alloc, text)?)
-        }
+    let mut words = Vec::with_capacity(alloc, values.len())?;
+    for value in values {
+        let word = text_of(alloc, at, value, key)?;
+        words.push(word)?;
     }
+    Ok(words)
+}
+
+/// The texts that the values are, one or more.
+fn words_of<'a>(
+    alloc: Global,
+    at: ItemPlace,
+    values: &'a [Value],
+    key: &str,
+) -> Result<Vec<&'a str>, ReadFault>
+    ensures { GivesBy (λ words. map_now words.items) result
+        (listed_texts_at at key.now (items_view values.now)) }
+{
+    let words = words_in(alloc, at, values, key)?;
+    if words.len() == 0 {
+        return Err(fault(alloc, at, WRONG_TYPE, key));
+    }
+    Ok(words)
 }
 
 /// The names that the texts are.
@@ -198,19 +213,32 @@ fn each_name(
     alloc: Global,
     at: ItemPlace,
     key: &str,
-    texts: &[Text],
+    texts: &[&str],
 ) -> Result<List<Name>, ReadFault>
-    ensures { GivesReading result (spec.each (spec.name_from at key.now) texts.now) }
+    ensures { GivesReading result (spec.each (spec.name_from at key.now) (map_now texts.now)) }
 {
-    let mut names = List::new(alloc);
+    let mut names = List::with_capacity(alloc, texts.len())?;
     for text in texts {
-        names.push(name_from(alloc, at, key, text.as_str())?)?;
+        names.push(name_from(alloc, at, key, text)?)?;
     }
     Ok(names)
 }
 
+/// The names that the values of a list are.
+fn listed_names(
+    alloc: Global,
+    at: ItemPlace,
+    values: &[Value],
+    key: &str,
+) -> Result<List<Name>, ReadFault>
+    ensures { GivesReading result (listed_names_at at key.now (items_view values.now)) }
+{
+    let words = words_of(alloc, at, values, key)?;
+    each_name(alloc, at, key, words.as_slice())
+}
+
 /// A name, or a list of one or more names.
-#[tactic(auto, unfolding(crate::specs::Fields::names_at))]
+#[tactic(auto, unfolding(crate::specs::Fields::names_at, crate::specs::Fields::texts_at))]
 pub fn names_of(
     alloc: Global,
     at: ItemPlace,
@@ -219,8 +247,14 @@ pub fn names_of(
 ) -> Result<List<Name>, ReadFault>
     ensures { GivesReading result (spec.names_at at key.now (view value.now)) }
 {
-    let texts = texts_of(alloc, at, value, key)?;
-    each_name(alloc, at, key, texts.as_slice())
+    match value {
+        Value::Array(values) => listed_names(alloc, at, values.as_slice(), key),
+        _ => {
+            let text = text_of(alloc, at, value, key)?;
+            let name = name_from(alloc, at, key, text)?;
+            one_row(alloc, name)
+        }
+    }
 }
 
 /// What stands after a `#` at the start.
@@ -245,19 +279,32 @@ fn each_reference(
     alloc: Global,
     at: ItemPlace,
     key: &str,
-    texts: &[Text],
+    texts: &[&str],
 ) -> Result<List<Name>, ReadFault>
-    ensures { GivesReading result (spec.each (spec.reference_from at key.now) texts.now) }
+    ensures { GivesReading result (spec.each (spec.reference_from at key.now) (map_now texts.now)) }
 {
-    let mut names = List::new(alloc);
+    let mut names = List::with_capacity(alloc, texts.len())?;
     for text in texts {
-        names.push(reference_from(alloc, at, key, text.as_str())?)?;
+        names.push(reference_from(alloc, at, key, text)?)?;
     }
     Ok(names)
 }
 
+/// The names of the references that the values of a list are.
+fn listed_references(
+    alloc: Global,
+    at: ItemPlace,
+    values: &[Value],
+    key: &str,
+) -> Result<List<Name>, ReadFault>
+    ensures { GivesReading result (listed_references_at at key.now (items_view values.now)) }
+{
+    let words = words_of(alloc, at, values, key)?;
+    each_reference(alloc, at, key, words.as_slice())
+}
+
 /// A reference, or a list of one or more references.
-#[tactic(auto, unfolding(crate::specs::Fields::references_at))]
+#[tactic(auto, unfolding(crate::specs::Fields::references_at, crate::specs::Fields::texts_at))]
 pub fn references_of(
     alloc: Global,
     at: ItemPlace,
@@ -266,8 +313,14 @@ pub fn references_of(
 ) -> Result<List<Name>, ReadFault>
     ensures { GivesReading result (spec.references_at at key.now (view value.now)) }
 {
-    let texts = texts_of(alloc, at, value, key)?;
-    each_reference(alloc, at, key, texts.as_slice())
+    match value {
+        Value::Array(values) => listed_references(alloc, at, values.as_slice(), key),
+        _ => {
+            let text = text_of(alloc, at, value, key)?;
+            let name = reference_from(alloc, at, key, text)?;
+            one_row(alloc, name)
+        }
+    }
 }
 
 /// The rights that a list of words stands for.

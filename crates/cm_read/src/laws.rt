@@ -1,4 +1,4 @@
-//! What holds of every manifest and declaration, as functions with empty bodies.
+//! What holds of every manifest and declaration, as functions with empty bodies, which no code calls.
 
 ghost use Rattle.cm_read.specs.ReadableInside.{TextsAreReadBack, ReadableIsWellFormed};
 ghost use Rattle.cm_read.specs.ReadableInside.{WhatIsReadIsReadable, WhatIsReadIsReadBack};

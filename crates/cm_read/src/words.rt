@@ -18,7 +18,7 @@ use cm_names::{Availability, ChildName, Dependency, Name};
 use serde_json::Value;
 use std::alloc::Global;
 
-/// What one of two words says.
+/// Which of two words the text is: `false` for `off`, `true` for `on`, and `None` for any other.
 fn flag_named(off: &str, on: &str, text: &str) -> Option<bool>
     ensures { result ≡ spec_inside.flag_named off.now on.now text.now }
 {
@@ -177,7 +177,8 @@ fn listed<T: Drop>(
     }
 }
 
-/// A field with one of two words, by default the first.
+/// What a field with one of two words says, by default the first: `startup`, `allowed_offers`, `extends` and
+/// `source_availability` are such.
 fn flag_of(
     alloc: Global,
     at: ItemPlace,

@@ -11,7 +11,8 @@ use cm_write::value_of;
 use std::alloc::Global;
 
 /// The one text of a declaration: a manifest in compact JSON, with the keys of each object in byte
-/// order.
+/// order. A journal tells by it what a resolve declared (`cm_reply`), and the manifests of a made workload
+/// are such texts (`cm_call`).
 ///
 /// All sections that list rows are there, but `environments` only where there are any, and `program`
 /// where there is a runner. There is an item for each row, in which nothing is left to a default,

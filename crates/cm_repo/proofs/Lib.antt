@@ -1,2 +1,3 @@
 pub mod BlockLemmas
 mod Examples
+pub mod UrlLemmas

@@ -1,11 +1,12 @@
 //! Absolute URLs.
 
-ghost use Rattle.std.specs.Prelude.{◌≡◌, None};
+ghost use Rattle.std.specs.Prelude.{◌≡◌, ◌++◌, None, IfSome, IsTrue, length, take_while};
 ghost use Rattle.url.specs.Parser.{Parsed};
 ghost use Rattle.url.specs.Parser as url;
 ghost use Rattle.url.specs.Parts.{Parts};
 ghost use Rattle.cm_repo.specs.Answers.{GivesUnless};
-ghost use Rattle.cm_repo.specs.Urls.{accepted, text_of, key_of, begins_with_hash, absolute_of};
+ghost use Rattle.cm_repo.specs.Urls.{accepted, text_of, key_of, begins_with_hash, joined_to, absolute_of};
+ghost use Rattle.cm_repo.specs.UrlsInside as inside;
 ghost use Rattle.cm_repo.specs.declared.fault.UrlFault.TheVariants.{Memory};
 
 use crate::UrlFault;
@@ -56,6 +57,86 @@ pub(crate) fn key(alloc: Global, url: &str) -> Result<Text, UrlFault>
     text_of(alloc, &url)
 }
 
+/// Whether the byte begins neither a fragment nor a query.
+fn in_prefix(byte: u8) -> bool
+    ensures { result ≡ inside.in_prefix byte }
+{
+    !(byte == b'#' || byte == b'?')
+}
+
+/// How many bytes stand before the first that begins a fragment or a query.
+fn prefix_len(bytes: &[u8]) -> usize
+    ensures { result ≡ length (take_while inside.in_prefix bytes.now) }
+{
+    bytes.iter().take_while(|byte| in_prefix(**byte)).count()
+}
+
+/// Whether the bytes begin with a fragment.
+fn begins_fragment(bytes: &[u8]) -> bool
+    ensures { result ≡ begins_with_hash bytes.now }
+{
+    matches!(bytes, [b'#', ..])
+}
+
+/// What stands before the fragment of a text that has one, and no query before it.
+fn prefix_of(text: &str) -> Option<&str>
+    ensures { IfSome result (λ prefix. inside.IsUrlPrefix prefix.now text.now) }
+{
+    let bytes = text.as_bytes();
+    let len = prefix_len(bytes);
+    if !begins_fragment(&bytes[len..]) {
+        return None;
+    }
+    Some(&text[..len])
+}
+
+/// What stands before the fragment of a base, where a fragment is joined to that base by putting it in the
+/// place of the base's own.
+#[tactic(auto, using(crate::proofs::UrlLemmas::plain))]
+fn plain_prefix<'a>(base: &'a str, url: &str) -> Option<&'a str>
+    ensures { IfSome result (λ prefix. inside.IsPlainPrefix prefix.now base.now url.now) }
+{
+    if !is_url_text(base) {
+        return None;
+    }
+    if !is_url_text(url) {
+        return None;
+    }
+    let prefix = prefix_of(base)?;
+    Some(prefix)
+}
+
+/// The text of the URL with this prefix and this fragment.
+fn with_fragment(alloc: Global, prefix: &str, url: &str) -> Result<Text, UrlFault>
+    ensures { GivesUnless Memory result (key_of (prefix.now ++ url.now)) }
+{
+    let mut text = Text::from_str(alloc, prefix)?;
+    text.push_str(url)?;
+    key(alloc, text.as_str())
+}
+
+/// The text of a URL that is joined to any base.
+fn joined_to(alloc: Global, base: &str, url: &str) -> Result<Text, UrlFault>
+    ensures { GivesUnless Memory result (joined_to base.now url.now) }
+{
+    let base = accepted(Url::parse(alloc, base))?;
+    let url = accepted(base.join(url))?;
+    text_of(alloc, &url)
+}
+
+/// The text of a fragment that is joined to a base: mostly the base has no query, and is parsed once, with
+/// this fragment in the place of its own.
+#[tactic(auto, using(crate::proofs::UrlLemmas::by_prefix))]
+fn joined(alloc: Global, base: &str, url: &str) -> Result<Text, UrlFault>
+    requires { IsTrue (begins_with_hash url.now) }
+    ensures { GivesUnless Memory result (joined_to base.now url.now) }
+{
+    match plain_prefix(base, url) {
+        Some(prefix) => with_fragment(alloc, prefix, url),
+        None => joined_to(alloc, base, url),
+    }
+}
+
 /// The text of the absolute URL that `url` is on `base`, which is the URL of the component that
 /// names it, and empty where there is none.
 ///
@@ -75,7 +156,5 @@ pub fn absolute(alloc: Global, base: &str, url: &str) -> Result<Text, UrlFault>
     if !begins_with_hash(url) {
         return key(alloc, url);
     }
-    let base = accepted(Url::parse(alloc, base))?;
-    let url = accepted(base.join(url))?;
-    text_of(alloc, &url)
+    joined(alloc, base, url)
 }

@@ -1,6 +1,7 @@
 //! Laws of the definitions.
 //!
-//! This function does nothing: what it promises is a fact about definitions, which its proof shows.
+//! This function does nothing, and no code calls it: what it promises is a fact about definitions,
+//! which its proof shows.
 
 ghost use Rattle.cm_valid.specs.Laws.{EachIsValidOrHasAFault};
 

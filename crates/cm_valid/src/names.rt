@@ -9,13 +9,17 @@ ghost use Rattle.cm_valid.specs.Lookup.{has};
 use cm_decl::{Capability, Child, Collection, Kind};
 use cm_names::Memory;
 use std::alloc::Global;
+use std::cmp::Reverse;
 use std::collections::BTreeSet;
 use std::marker::Model;
 
 /// A set of names, which contracts see as the list of them.
+///
+/// The greatest stands first: names mostly come in their order, and where the set is gone through for a
+/// place, one that comes first is found at once.
 #[derive(Drop)]
 pub struct Names<'a> {
-    set: BTreeSet<&'a str>,
+    set: BTreeSet<Reverse<&'a str>>,
 }
 
 impl<'a> Model for Names<'a> {
@@ -23,7 +27,7 @@ impl<'a> Model for Names<'a> {
 
     ghost Value = { List (List ℕ) };
 
-    ghost view = { λ a. map (λ k. k.now) a.set.keys };
+    ghost view = { λ a. map (λ k. k.0.now) a.set.keys };
 }
 
 impl<'a> Names<'a> {
@@ -41,7 +45,7 @@ impl<'a> Names<'a> {
         ensures { OnOk result ((other : List ℕ) →
             has self.new other ≡ (bytes_eq other name.now || has self.old other)) }
     {
-        self.set.insert(name)?;
+        self.set.insert(Reverse(name))?;
         Ok(())
     }
 
@@ -49,7 +53,7 @@ impl<'a> Names<'a> {
     pub fn contains(&self, name: &'a str) -> bool
         ensures { result ≡ has self.now name.now }
     {
-        self.set.contains(&name)
+        self.set.contains(&Reverse(name))
     }
 }
 

@@ -5,5 +5,5 @@ use Rattle.cm_valid.proofs.names.Names.insert.Goals as goal
 
 pub returns : goal.returns
 returns c = λ other.
-    ap (λ ks. has (texts ks) other) c.in_ok-insert.ensures.keys ∙ inserted other c.args.name c.self.inside.set.keys ∙
+    ap (λ ks. has (texts ks) other) c.in_ok-insert.ensures.keys ∙ inserted other _ c.self.inside.set.keys ∙
     ap (λ names. bytes_eq other c.args.name.now || has names other) c.self.view_is
