@@ -1,7 +1,7 @@
 //! A law of events.
 //!
-//! The function does nothing: what it promises is a fact about the definitions in `specs/`, which its
-//! proof shows.
+//! The function does nothing, and no code calls it: what it promises is a fact about the definitions in
+//! `specs/`, which its proof shows.
 
 ghost use Rattle.cm_steps.specs.Enabled.{EnabledByBoth};
 

@@ -234,9 +234,13 @@ impl Realm {
         ensures step { IfOk result (λ reply.
             AddsEntry self.old self.new caller (event_by asking inc path) reply) }
         ensures room { OnOk result (RealmHasRoom self.old 1) }
+        ensures full { LacksRoom self.old 1 → result ≡ Err NoStep.HistoryFull }
         ensures refused { IfErr result (RefusesQuiet self.old) }
         ensures err { OnErr result (self.new ≡ self.old) }
     {
+        if !self.has_room(1) {
+            return Err(NoStep::HistoryFull);
+        }
         if asks(&self.table, asking, inc) {
             return self.answer(alloc, caller, asking, inc, path);
         }
@@ -281,15 +285,19 @@ impl Realm {
     /// part of the moniker that was found; or, where an instance on the way isn't resolved,
     /// `Need`, or `Shut` where it is shut or being shut down.
     ///
-    /// - `HistoryFull` where one entry more doesn't fit;
+    /// - `HistoryFull` where one entry more doesn't fit, which is tried first;
     /// - `Memory` where memory runs out.
     pub fn find(&mut self, alloc: Global, caller: u32, moniker: Moniker) -> Result<Reply, NoStep>
         ensures step { IfOk result (λ reply.
             AddsEntry self.old self.new caller (Event.Find moniker) reply) }
         ensures room { OnOk result (RealmHasRoom self.old 1) }
+        ensures full { LacksRoom self.old 1 → result ≡ Err NoStep.HistoryFull }
         ensures refused { IfErr result (RefusesQuiet self.old) }
         ensures err { OnErr result (self.new ≡ self.old) }
     {
+        if !self.has_room(1) {
+            return Err(NoStep::HistoryFull);
+        }
         trees_stay_sound();
         let reply = found(alloc, &self.table, &moniker)?;
         self.tell(caller, Event::Find(moniker), reply)
@@ -298,15 +306,19 @@ impl Realm {
     /// How an instance is: `Shown`, or `Gone` where it doesn't live, or it or one above it is
     /// being destroyed.
     ///
-    /// - `HistoryFull` where one entry more doesn't fit;
+    /// - `HistoryFull` where one entry more doesn't fit, which is tried first;
     /// - `Memory` where memory runs out.
     pub fn show(&mut self, alloc: Global, caller: u32, inc: u64) -> Result<Reply, NoStep>
         ensures step { IfOk result (λ reply.
             AddsEntry self.old self.new caller (Event.Show inc) reply) }
         ensures room { OnOk result (RealmHasRoom self.old 1) }
+        ensures full { LacksRoom self.old 1 → result ≡ Err NoStep.HistoryFull }
         ensures refused { IfErr result (RefusesQuiet self.old) }
         ensures err { OnErr result (self.new ≡ self.old) }
     {
+        if !self.has_room(1) {
+            return Err(NoStep::HistoryFull);
+        }
         let reply = shown(alloc, &self.table, inc)?;
         self.tell(caller, Event::Show(inc), reply)
     }
@@ -316,7 +328,7 @@ impl Realm {
     /// `Gone`, `Need` or `Shut` of the instance itself. This is `ListChildren` of
     /// `fuchsia.component.Realm`.
     ///
-    /// - `HistoryFull` where one entry more doesn't fit;
+    /// - `HistoryFull` where one entry more doesn't fit, which is tried first;
     /// - `Memory` where memory runs out.
     pub fn list(
         &mut self,
@@ -328,9 +340,13 @@ impl Realm {
         ensures step { IfOk result (λ reply.
             AddsEntry self.old self.new caller (Event.Listing inc coll) reply) }
         ensures room { OnOk result (RealmHasRoom self.old 1) }
+        ensures full { LacksRoom self.old 1 → result ≡ Err NoStep.HistoryFull }
         ensures refused { IfErr result (RefusesQuiet self.old) }
         ensures err { OnErr result (self.new ≡ self.old) }
     {
+        if !self.has_room(1) {
+            return Err(NoStep::HistoryFull);
+        }
         let reply = list_told(alloc, &self.table, &mut self.records.last, inc, &coll)?;
         self.tell(caller, Event::Listing(inc, coll), reply)
     }
@@ -339,15 +355,19 @@ impl Realm {
     /// by their incarnations, each with its moniker and the paths that it uses; `Gone` of the
     /// instance itself.
     ///
-    /// - `HistoryFull` where one entry more doesn't fit;
+    /// - `HistoryFull` where one entry more doesn't fit, which is tried first;
     /// - `Memory` where memory runs out.
     pub fn survey(&mut self, alloc: Global, caller: u32, inc: u64) -> Result<Reply, NoStep>
         ensures step { IfOk result (λ reply.
             AddsEntry self.old self.new caller (Event.Survey inc) reply) }
         ensures room { OnOk result (RealmHasRoom self.old 1) }
+        ensures full { LacksRoom self.old 1 → result ≡ Err NoStep.HistoryFull }
         ensures refused { IfErr result (RefusesQuiet self.old) }
         ensures err { OnErr result (self.new ≡ self.old) }
     {
+        if !self.has_room(1) {
+            return Err(NoStep::HistoryFull);
+        }
         let reply = survey_told(alloc, &self.table, &mut self.records.last, inc)?;
         self.tell(caller, Event::Survey(inc), reply)
     }
@@ -355,15 +375,19 @@ impl Realm {
     /// How long the history is: `Tailed` with the number of entries before this one, or `Gone`
     /// of the instance. The place that the caller reads the history from is kept with the event.
     ///
-    /// - `HistoryFull` where one entry more doesn't fit;
+    /// - `HistoryFull` where one entry more doesn't fit, which is tried first;
     /// - `Memory` where memory runs out.
     pub fn tail(&mut self, caller: u32, inc: u64, from: u64) -> Result<Reply, NoStep>
         ensures step { IfOk result (λ reply.
             AddsEntry self.old self.new caller (Event.Tail inc from) reply) }
         ensures room { OnOk result (RealmHasRoom self.old 1) }
+        ensures full { LacksRoom self.old 1 → result ≡ Err NoStep.HistoryFull }
         ensures refused { IfErr result (RefusesQuiet self.old) }
         ensures err { OnErr result (self.new ≡ self.old) }
     {
+        if !self.has_room(1) {
+            return Err(NoStep::HistoryFull);
+        }
         let entries = self.records.book.entries().len() as u64;
         let reply = tailed(&self.table, inc, entries);
         self.tell(caller, Event::Tail(inc, from), reply)
@@ -373,7 +397,7 @@ impl Realm {
     /// `Failed`, or `NoSuchUse`. `Need` where an instance on the way has to be resolved first,
     /// `SourceShut` where it can't be any more; `Gone`, `Need` or `Shut` of the instance itself.
     ///
-    /// - `HistoryFull` where one entry more doesn't fit;
+    /// - `HistoryFull` where one entry more doesn't fit, which is tried first;
     /// - `Memory` where memory runs out.
     pub fn route(
         &mut self,
@@ -385,6 +409,7 @@ impl Realm {
         ensures step { IfOk result (λ reply.
             AddsEntry self.old self.new caller (Event.Route inc path) reply) }
         ensures room { OnOk result (RealmHasRoom self.old 1) }
+        ensures full { LacksRoom self.old 1 → result ≡ Err NoStep.HistoryFull }
         ensures refused { IfErr result (RefusesQuiet self.old) }
         ensures err { OnErr result (self.new ≡ self.old) }
     {
@@ -395,7 +420,7 @@ impl Realm {
     /// on, `NeedStart` where it has to be started first, `ClientOff` where the instance is off;
     /// and otherwise as `route`.
     ///
-    /// - `HistoryFull` where one entry more doesn't fit;
+    /// - `HistoryFull` where one entry more doesn't fit, which is tried first;
     /// - `Memory` where memory runs out.
     pub fn open_use(
         &mut self,
@@ -407,6 +432,7 @@ impl Realm {
         ensures step { IfOk result (λ reply.
             AddsEntry self.old self.new caller (Event.OpenUse inc path) reply) }
         ensures room { OnOk result (RealmHasRoom self.old 1) }
+        ensures full { LacksRoom self.old 1 → result ≡ Err NoStep.HistoryFull }
         ensures refused { IfErr result (RefusesQuiet self.old) }
         ensures err { OnErr result (self.new ≡ self.old) }
     {
@@ -416,7 +442,7 @@ impl Realm {
     /// Opens what an instance exposes by the name, as `open_use`, but the instance needn't be
     /// on. This is `OpenExposedDir` of `fuchsia.component.Realm`.
     ///
-    /// - `HistoryFull` where one entry more doesn't fit;
+    /// - `HistoryFull` where one entry more doesn't fit, which is tried first;
     /// - `Memory` where memory runs out.
     pub fn open_exposed(
         &mut self,
@@ -428,9 +454,13 @@ impl Realm {
         ensures step { IfOk result (λ reply.
             AddsEntry self.old self.new caller (Event.OpenExposed inc name) reply) }
         ensures room { OnOk result (RealmHasRoom self.old 1) }
+        ensures full { LacksRoom self.old 1 → result ≡ Err NoStep.HistoryFull }
         ensures refused { IfErr result (RefusesQuiet self.old) }
         ensures err { OnErr result (self.new ≡ self.old) }
     {
+        if !self.has_room(1) {
+            return Err(NoStep::HistoryFull);
+        }
         let reply = open_exposed_reply(alloc, &self.table, inc, &name)?;
         self.tell(caller, Event::OpenExposed(inc, name), reply)
     }

@@ -26,9 +26,31 @@ pub(crate) struct Recorded {
 }
 
 impl Recorded {
-    /// Puts down an event that asks for no use with its reply, in room that is reserved. Forgets what
-    /// was told last; and the answers that are kept, and what is known of ways down, where that changes
-    /// what walks read; whether it dooms an instance is told.
+    /// Puts down an event that asks for no use with its reply, in room that is reserved. What was told
+    /// last stays. The answers that are kept, and what is known of ways down, are forgotten where the
+    /// event changes what walks read; whether it dooms an instance is told.
+    fn put(&mut self, caller: u32, event: Event, reply: Reply, doomed: bool)
+        requires { 0 < self.old.book.reserved }
+        ensures book { let was = self.old.book in
+            let entries = was.entries ++ entry_of caller event reply ∷ [] in
+            self.new.book ≡ record was { entries = entries; reserved = was.reserved - 1 } }
+        ensures keeper { self.new.keeper ≡ followed event reply doomed self.old.keeper }
+        ensures plan { let emptied = is_emptied event reply doomed in
+            IsPlannedBy emptied self.old.plan self.new.plan }
+        ensures last { self.new.last ≡ self.old.last }
+    {
+        if self.keeper.follow(&event, &reply, doomed) {
+            self.plan.forget();
+        }
+        self.book.push_reserved(Entry {
+            caller,
+            event,
+            reply,
+        });
+    }
+
+    /// Puts down an event that asks for no use and may change an instance, as `put` does. What was told
+    /// last is forgotten, too.
     pub(crate) fn put_down(&mut self, caller: u32, event: Event, reply: Reply, doomed: bool)
         requires { 0 < self.old.book.reserved }
         ensures book { let was = self.old.book in
@@ -39,15 +61,8 @@ impl Recorded {
             IsPlannedBy emptied self.old.plan self.new.plan }
         ensures last { self.new.last ≡ nothing_told }
     {
-        if self.keeper.follow(&event, &reply, doomed) {
-            self.plan.forget();
-        }
         self.last = LastTold::new();
-        self.book.push_reserved(Entry {
-            caller,
-            event,
-            reply,
-        });
+        self.put(caller, event, reply, doomed);
     }
 
     /// Puts down an event that changes no instance and asks for no use with its reply, in room that is
@@ -62,13 +77,6 @@ impl Recorded {
             IsPlannedBy emptied self.old.plan self.new.plan }
         ensures last { self.new.last ≡ self.old.last }
     {
-        if self.keeper.follow(&event, &reply, false) {
-            self.plan.forget();
-        }
-        self.book.push_reserved(Entry {
-            caller,
-            event,
-            reply,
-        });
+        self.put(caller, event, reply, false);
     }
 }

@@ -180,7 +180,8 @@ impl ChildIndex {
     }
 }
 
-/// The child of that name that isn't being destroyed.
+/// The child of that name that isn't being destroyed, in a slot's index, which is missing where there were
+/// never children. The table, as a view, finds a child by this.
 pub fn child_in(index: &Option<ChildIndex>, name: &ChildName) -> Option<u64>
     requires { (n : ℕ) → named_in index.now name.now ≡ Some n → n < 2 ^ 64 }
     ensures { result ≡ named_in index.now name.now }
@@ -191,7 +192,8 @@ pub fn child_in(index: &Option<ChildIndex>, name: &ChildName) -> Option<u64>
     }
 }
 
-/// The first child that was made after the given one.
+/// The first child that was made after the given one, or of all for `None`, in a slot's index that may be
+/// missing. Views and marks go from child to child by this.
 pub fn next_in(index: &Option<ChildIndex>, after: Option<u64>) -> Option<u64>
     requires rises { Rises index.now }
     requires fits { EachItem (λ k. k < 2 ^ 64) (kids_of index.now) }
@@ -203,7 +205,8 @@ pub fn next_in(index: &Option<ChildIndex>, after: Option<u64>) -> Option<u64>
     }
 }
 
-/// The last child.
+/// The last child in a slot's index that may be missing. The table's walk down to an instance without
+/// children asks for it.
 pub fn last_in(index: &Option<ChildIndex>) -> Option<u64>
     requires { EachItem (λ k. k < 2 ^ 64) (kids_of index.now) }
     ensures { result ≡ nth (kids_of index.now) (length (kids_of index.now) - 1) }

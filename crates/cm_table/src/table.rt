@@ -137,6 +137,17 @@ impl Table {
         }
     }
 
+    /// The instance that came last; `None` where it doesn't live any more.
+    pub fn newest(&self) -> Option<u64>
+        ensures { let row = row_of self.now.rows (self.now.next_inc - 1) in
+            result ≡ option_map (λ r. r.inc) row }
+    {
+        match self.slot(self.next_inc.saturating_sub(1)) {
+            None => None,
+            Some(slot) => Some(slot.inc()),
+        }
+    }
+
     /// How many more rows fit: together with those that live they are at most the limit, and
     /// none of them needs an incarnation above 2^64 - 2.
     pub fn free(&self) -> u32
@@ -250,6 +261,7 @@ impl Table {
             self.new.rows ≡ rows_by inc old.next_inc result.finish result.outcome old.rows }
         ensures next { self.new.next_inc ≡ next_by self.old.next_inc result.finish result.outcome }
         ensures spare { self.old.spare ≤ self.new.spare + 1 }
+        ensures full { result.outcome ≡ Outcome.Full → self.new.spare ≡ self.old.spare }
         ensures builtins { self.new.builtins ≡ self.old.builtins }
         ensures limit { self.new.limit ≡ self.old.limit }
     {

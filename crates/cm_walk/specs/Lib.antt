@@ -1,3 +1,4 @@
 pub mod Ahead
 pub mod Laws
+pub mod Leading
 pub mod Walking

@@ -1,11 +1,12 @@
-//! What an instance takes from those above it, and how it is itself.
+//! What an instance takes from those above it, and how it is itself. Deciders and reports ask this of any
+//! number, whether an instance that lives has it or not.
 
 ghost use Rattle.std.specs.Prelude.{◌≡◌};
 ghost use Rattle.cm_world.specs.Rows.{is_below, is_gone, is_closed, is_resolved, is_shut, is_on};
 
 use cm_world::View;
 
-/// Whether an instance is the given one or below it.
+/// Whether the second instance is the first or below it. The choice of the next stop (`cm_order`) asks it.
 #[tactic(auto, using(crate::proofs::ways::Up::no_mark))]
 pub fn is_below<V: View>(view: &V, top: u64, inc: u64) -> bool
     ensures { result ≡ is_below (V.rows view.now) top inc }
@@ -40,7 +41,7 @@ pub fn is_closed<V: View>(view: &V, inc: u64) -> bool
     view.closing_above(inc) || is_shut(view, inc)
 }
 
-/// Whether an instance is shut.
+/// Whether an instance is shut; `false` where it doesn't live.
 pub fn is_shut<V: View>(view: &V, inc: u64) -> bool
     ensures { result ≡ is_shut (V.rows view.now) inc }
 {
@@ -50,7 +51,8 @@ pub fn is_shut<V: View>(view: &V, inc: u64) -> bool
     }
 }
 
-/// Whether the program of an instance runs.
+/// Whether the program of an instance runs; `false` where the instance doesn't live. Asked before an opening
+/// and before a stop, and for a survey.
 pub fn is_on<V: View>(view: &V, inc: u64) -> bool
     ensures { result ≡ is_on (V.rows view.now) inc }
 {

@@ -22,6 +22,6 @@ pub mod subtree;
 pub(crate) mod trail;
 pub mod walking;
 
-pub use locating::locate;
+pub use locating::{locate, locate_below, names_leading_to};
 pub use subtree::rows_below;
 pub use walking::walk;

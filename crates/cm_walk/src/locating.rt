@@ -1,13 +1,15 @@
 //! Where a moniker leads, in a counted number of looks.
 
-ghost use Rattle.std.specs.Prelude.{◌≡◌, ◌+◌, ◌*◌, ◌≤◌, IsTrue, length};
+ghost use Rattle.std.specs.Prelude.{◌≡◌, ◌+◌, ◌-◌, ◌*◌, ◌≤◌, IsTrue, IfSome, drop, length};
 ghost use Rattle.cm_world.specs.Located.{located_from};
 ghost use Rattle.cm_world.specs.Offering as offering;
 ghost use Rattle.cm_world.specs.Rows.{is_live};
 ghost use Rattle.cm_world.specs.Sound.{IsOrderly};
+ghost use Rattle.cm_walk.specs.Leading.{LeadsDownTo};
 
+use crate::above::is_gone;
 use cm_names::Moniker;
-use cm_world::{Located, StepCount, Store};
+use cm_world::{Located, StepCount, Store, View};
 use std::sync::ledger::Ledger;
 
 /// Where the moniker leads from the root, in at most two looks a name: each look at this tree takes a step
@@ -24,8 +26,26 @@ pub fn locate<L: Ledger, S: Store<L>>(
     ensures located { result ≡ located_from (S.rows store.now) 0 0 moniker.now.parts }
     ensures cost { steps.new ≤ steps.old + 2 * length moniker.now.parts }
 {
-    let mut at = 0;
-    for depth in 0..moniker.parts.len() {
+    locate_below(store, moniker, 0, 0, steps)
+}
+
+/// Where the moniker leads from this instance, to which its first `count` names lead, as `locate` does. Each
+/// name behind those takes two looks at most.
+pub fn locate_below<L: Ledger, S: Store<L>>(
+    store: &S,
+    moniker: &Moniker,
+    from: u64,
+    count: usize,
+    steps: &mut StepCount<L>,
+) -> Located
+    requires orderly { IsOrderly (S.rows store.now) (S.next_inc store.now) }
+    requires lives { IsTrue (is_live (S.rows store.now) from) }
+    requires within { count ≤ length moniker.now.parts }
+    ensures located { result ≡ located_from (S.rows store.now) from count (drop count moniker.now.parts) }
+    ensures cost { steps.new ≤ steps.old + 2 * (length moniker.now.parts - count) }
+{
+    let mut at = from;
+    for depth in count..moniker.parts.len() {
         if !store.is_resolved(at, steps) {
             return Located::Unresolved(at);
         }
@@ -35,6 +55,25 @@ pub fn locate<L: Ledger, S: Store<L>>(
         }
     }
     Located::Found(at)
+}
+
+/// How many of the moniker's first names lead from the root to this instance, where they lead there and it
+/// isn't gone: as many as its own moniker has. `None` says nothing; it comes, too, where no moniker is kept
+/// with the row.
+pub fn names_leading_to<V: View>(view: &V, moniker: &Moniker, inc: u64) -> Option<usize>
+    requires { IsOrderly (V.rows view.now) (V.next_inc view.now) }
+    ensures { IfSome result (LeadsDownTo (V.rows view.now) moniker.now.parts inc) }
+{
+    if is_gone(view, inc) {
+        return None;
+    }
+    let Some(own) = view.moniker_at(inc) else {
+        return None;
+    };
+    if moniker.starts_with(own) {
+        return Some(own.parts.len());
+    }
+    None
 }
 
 /// An index as it is told.

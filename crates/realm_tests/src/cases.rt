@@ -65,6 +65,36 @@ pub const LIMITS: &str = "\
     1 3 find store => need 0\n\
     2 3 show 9 => gone 9\n\
     history full\n\
+    == realm 9 1 tells each step that the history is full\n\
+    3 tail 7 0\n\
+    3 tail 0 0\n\
+    3 find 0 store\n\
+    3 show 0\n\
+    3 list 0 things\n\
+    3 route 0 /svc/log\n\
+    3 open 0 /svc/log\n\
+    3 open-exposed 0 data\n\
+    3 reap 0\n\
+    3 begin 0 start\n\
+    3 exited 0\n\
+    3 close 0\n\
+    3 doom 0\n\
+    3 create 0 create . things new #new\n\
+    =>\n\
+    1 3 tail 7 0 => gone 7\n\
+    history full\n\
+    history full\n\
+    history full\n\
+    history full\n\
+    history full\n\
+    history full\n\
+    history full\n\
+    history full\n\
+    history full\n\
+    history full\n\
+    history full\n\
+    history full\n\
+    history full\n\
     == realm 9 2 keeps room for the end of an action\n\
     0 begin 0 resolve\n\
     0 show 0\n\

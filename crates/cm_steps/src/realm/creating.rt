@@ -1,11 +1,11 @@
 //! The step that creates a child in a collection: `CreateChild` of `fuchsia.component.Realm`
 //! (fuchsia.dev).
 
-ghost use Rattle.std.specs.Prelude.{◌≡◌, IfOk, IfErr, OnOk, OnErr};
+ghost use Rattle.std.specs.Prelude.{◌≡◌, Err, IfOk, IfErr, OnOk, OnErr};
 ghost use Rattle.cm_world.specs.Create.{IsCreateReply};
 ghost use Rattle.cm_dynamic.specs.Laws.{CanTakeChild};
 ghost use Rattle.cm_laws.specs.Story.{world_of, AddsEntry};
-ghost use Rattle.cm_steps.specs.Steps.{RealmHasRoom, RefusesQuiet};
+ghost use Rattle.cm_steps.specs.Steps.{RealmHasRoom, LacksRoom, RefusesQuiet};
 ghost use Rattle.cm_steps.specs.Answers.{CreatesBy};
 
 use super::Realm;
@@ -31,7 +31,7 @@ impl Realm {
     /// with the first offer that breaks a rule of a manifest; `Cycle` where the children would
     /// depend on each other in a ring; `Full` where one instance more doesn't fit.
     ///
-    /// - `HistoryFull` where one entry more doesn't fit;
+    /// - `HistoryFull` where one entry more doesn't fit, which is tried first;
     /// - `Memory` where memory runs out.
     pub fn create(
         &mut self,
@@ -46,9 +46,13 @@ impl Realm {
         ensures step { IfOk result (λ reply.
             AddsEntry self.old self.new caller (Event.Create parent coll name url gives) reply) }
         ensures room { OnOk result (RealmHasRoom self.old 1) }
+        ensures full { LacksRoom self.old 1 → result ≡ Err NoStep.HistoryFull }
         ensures refused { IfErr result (RefusesQuiet self.old) }
         ensures err { OnErr result (self.new ≡ self.old) }
     {
+        if !self.has_room(1) {
+            return Err(NoStep::HistoryFull);
+        }
         trees_stay_sound();
         let offered = gives.as_slice();
         let answer = create_answer(alloc, &self.table, parent, &coll, &name, offered)?;

@@ -4,7 +4,7 @@
 //! the child is marked, it is shut down with all below it, and it is removed. That an instance is
 //! shut down before it is destroyed is the rule of Fuchsia's component lifecycle documentation.
 
-ghost use Rattle.std.specs.Prelude.{◌≡◌, IsTrue, IfOk, IfErr, OnOk, OnErr, map, if◌then◌else◌};
+ghost use Rattle.std.specs.Prelude.{◌≡◌, Err, IsTrue, IfOk, IfErr, OnOk, OnErr, map, if◌then◌else◌};
 ghost use Rattle.cm_world.specs.Rows.{is_live, subtree};
 ghost use Rattle.cm_world.specs.End.{set_closing, set_doomed};
 ghost use Rattle.cm_world.specs.Expiring.{runs_once as once};
@@ -12,7 +12,7 @@ ghost use Rattle.cm_world.specs.Marks.{lost_of, mark_reply};
 ghost use Rattle.cm_world.specs.Step.{may_purge};
 ghost use Rattle.cm_table.specs.Change.{with_changed};
 ghost use Rattle.cm_laws.specs.Story.{world_of, AddsEntry};
-ghost use Rattle.cm_steps.specs.Steps.{RealmHasRoom, RefusesQuiet};
+ghost use Rattle.cm_steps.specs.Steps.{RealmHasRoom, LacksRoom, RefusesQuiet};
 ghost use Rattle.cm_steps.specs.Answers.{AnswersMark, AnswersPurge};
 
 use super::Realm;
@@ -39,15 +39,19 @@ impl Realm {
     /// `Gone` where it doesn't live; `Already` where it itself is being destroyed; `Gone` where
     /// one above it is; `NotDynamic` where it is in no collection.
     ///
-    /// - `HistoryFull` where one entry more doesn't fit;
+    /// - `HistoryFull` where one entry more doesn't fit, which is tried first;
     /// - `Memory` where memory runs out.
     pub fn mark(&mut self, caller: u32, doom: bool, inc: u64) -> Result<Reply, NoStep>
         ensures step { IfOk result (λ reply.
             AddsEntry self.old self.new caller (Event.Mark doom inc) reply) }
         ensures room { OnOk result (RealmHasRoom self.old 1) }
+        ensures full { LacksRoom self.old 1 → result ≡ Err NoStep.HistoryFull }
         ensures refused { IfErr result (RefusesQuiet self.old) }
         ensures err { OnErr result (self.new ≡ self.old) }
     {
+        if !self.has_room(1) {
+            return Err(NoStep::HistoryFull);
+        }
         let answer = mark_answer(&self.table, doom, inc);
         self.mark_by(caller, doom, inc, answer)
     }
@@ -93,15 +97,19 @@ impl Realm {
     /// where it itself is being destroyed, and else with its children that are, by their
     /// incarnations; with none where it doesn't live.
     ///
-    /// - `HistoryFull` where one entry more doesn't fit;
+    /// - `HistoryFull` where one entry more doesn't fit, which is tried first;
     /// - `Memory` where memory runs out.
     pub fn reap(&mut self, alloc: Global, caller: u32, inc: u64) -> Result<Reply, NoStep>
         ensures step { IfOk result (λ reply.
             AddsEntry self.old self.new caller (Event.Reap inc) reply) }
         ensures room { OnOk result (RealmHasRoom self.old 1) }
+        ensures full { LacksRoom self.old 1 → result ≡ Err NoStep.HistoryFull }
         ensures refused { IfErr result (RefusesQuiet self.old) }
         ensures err { OnErr result (self.new ≡ self.old) }
     {
+        if !self.has_room(1) {
+            return Err(NoStep::HistoryFull);
+        }
         let reply = reap_reply(alloc, &self.table, inc)?;
         self.tell(caller, Event::Reap(inc), reply)
     }
@@ -120,16 +128,20 @@ impl Realm {
     /// `PurgedBefore` where the instance doesn't live any more. This is the last part of
     /// `DestroyChild` of `fuchsia.component.Realm`.
     ///
-    /// - `HistoryFull` where one entry more doesn't fit;
+    /// - `HistoryFull` where one entry more doesn't fit, which is tried first;
     /// - `Memory` where memory runs out.
     pub fn purge(&mut self, alloc: Global, caller: u32, inc: u64) -> Result<Reply, NoStep>
         requires purgeable { IsTrue (may_purge (world_of self.old).rows inc) }
         ensures step { IfOk result (λ reply.
             AddsEntry self.old self.new caller (Event.Purge inc) reply) }
         ensures room { OnOk result (RealmHasRoom self.old 1) }
+        ensures full { LacksRoom self.old 1 → result ≡ Err NoStep.HistoryFull }
         ensures refused { IfErr result (RefusesQuiet self.old) }
         ensures err { OnErr result (self.new ≡ self.old) }
     {
+        if !self.has_room(1) {
+            return Err(NoStep::HistoryFull);
+        }
         let answer = purge_answer(alloc, &self.table, inc)?;
         self.purge_by(caller, inc, answer)
     }

@@ -10,11 +10,15 @@ ghost use Rattle.cm_world.specs.Located.{located_from};
 use cm_names::{Chain, Memory, Moniker};
 use cm_table::Table;
 use cm_walk::above::is_closed;
-use cm_walk::locate;
+use cm_walk::hop::parent;
+use cm_walk::{locate, locate_below, names_leading_to};
 use cm_world::{Located, Reply, StepCount, View};
 use std::alloc::Global;
 use std::marker::Brand;
 use std::sync::ledger::{Blank, Ledger};
+
+/// A moniker of so many names isn't gone down from the root where another way is known.
+const LONG_WAY: usize = 16;
 
 /// Which instance stands where the moniker leads from the root.
 #[tactic(auto, using(crate::proofs::read::Leading::found_reply))]
@@ -30,7 +34,8 @@ pub fn found(alloc: Global, table: &Table, moniker: &Moniker) -> Result<Reply, M
     }
 }
 
-/// Where the moniker leads, with a step counter that nobody reads.
+/// Where the moniker leads, with a step counter that nobody reads. Whoever has the instances of a long
+/// moniker resolved, one after the other, finds each at the parent of the instance that came last.
 fn located<L: Ledger>(table: &Table, moniker: &Moniker, blank: Blank) -> Located
     requires name { blank.name ≡ L.name }
     requires parts { blank.parts ≡ L.parts }
@@ -40,7 +45,25 @@ fn located<L: Ledger>(table: &Table, moniker: &Moniker, blank: Blank) -> Located
     ensures { result ≡ located_from table.now.rows 0 0 moniker.now.parts }
 {
     let mut steps = StepCount::<L>::new(blank);
-    locate(table, moniker, &mut steps)
+    let Some(at) = last_parent(table, moniker) else {
+        return locate(table, moniker, &mut steps);
+    };
+    let Some(count) = names_leading_to(table, moniker, at) else {
+        return locate(table, moniker, &mut steps);
+    };
+    locate_below(table, moniker, at, count, &mut steps)
+}
+
+/// The parent of the instance that came last, where the moniker is long enough for a look whether it leads by
+/// there.
+fn last_parent(table: &Table, moniker: &Moniker) -> Option<u64> {
+    if moniker.parts.len() < LONG_WAY {
+        return None;
+    }
+    match table.newest() {
+        None => None,
+        Some(newest) => parent(table, newest),
+    }
 }
 
 /// What is said where so many of these names are found, and the next one isn't. No tree has 2^32 - 1
