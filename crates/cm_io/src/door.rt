@@ -57,9 +57,9 @@ pub trait Door: Drop {
         ensures place { Opens at.now (place self.old) (place self.new) result }
         ensures counts { Listens (counts self.old) (counts self.new) result };
 
-    /// Waits for the next peer, where it was let come. A link that is given is new: it failed never, what
-    /// it tells of its bytes is that there were none, and what it tells of its order is that it was
-    /// neither read nor written nor hung up.
+    /// Waits for the next peer, once `listen` was `Ready`, and gives its link. The link is new: it has never
+    /// failed, and what it tells of its bytes and their order is that none was read or written, nor was it
+    /// hung up. Workers of `cm_session` call it, one at a time.
     fn accept<R: Threads + Wait + Sync>(&mut self, rt: &R) -> Accept<Self::Link>
         requires { IsOpen (place self.old) }
         ensures place { place self.new ≡ place self.old }

@@ -150,7 +150,9 @@ impl<N: Files<File = File> + Net + Drop> SocketDoor<N> {
     /// Listens no longer, and removes the socket file of the last listen that succeeded, where a
     /// socket is still there. The file would outlive the program.
     pub fn close(&mut self)
-        ensures { ⟦<SocketDoor<N> as Door>⟧.counts self.new ≡ ⟦<SocketDoor<N> as Door>⟧.counts self.old }
+        ensures place { ⟦<SocketDoor<N> as Door>⟧.place self.new ≡ nowhere }
+        ensures counts { ⟦<SocketDoor<N> as Door>⟧.counts self.new ≡
+            ⟦<SocketDoor<N> as Door>⟧.counts self.old }
     {
         if let Some(listener) = self.listener.take() {
             remove_file_of(&self.system, &listener);
