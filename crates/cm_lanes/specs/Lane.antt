@@ -9,7 +9,7 @@ use Rattle.cm_command.specs.declared.script.Line.{Line}
 use Rattle.cm_gate.specs.declared.asked.GateCall.{GateCall}
 use Rattle.cm_manager.specs.Asking.{frame_of}
 use Rattle.cm_manager.specs.Work.{Manifests}
-use Rattle.cm_manager.specs.Contract.{RealmPass}
+use Rattle.cm_manager.specs.Contract.{RealmPass, GatesView}
 use Rattle.cm_lanes.specs.declared.said.Said.{Said}
 use Rattle.cm_lanes.specs.declared.lane.Lane.{Lane}
 use Rattle.cm_lanes.specs.Script.{AnsweredLine, answered_lines, PerformsLines}
@@ -24,16 +24,15 @@ GrewUnless lost old new more = lost ≡ false → new ≡ old ++ more
 abbrev pub PutsUnless : Bool → Bool → List Said → List Said → Said → Type 0
 PutsUnless before now old new s = now ≡ false → (before ≡ false) × (new ≡ old ++ s ∷ [])
 
-module _ {G : Type 0} (log_of : G → Option (List GateCall)) (faults_of : G → ℕ) where
-  -- the pass's caller has performed its own lines among these, in order, and its answers were kept
-  -- unless memory ran out
-  pub record HasPerformed (manifests : Manifests) (lines : List Line) (p q : RealmPass) (g h : G)
-      (said₀ said₁ : List Said) (lost : Bool) : Type 0 where
-    pub keeps : KeepsPass manifests p q (gates_view log_of faults_of g) (gates_view log_of faults_of h)
-    pub answers : List AnsweredLine
-    pub own_lines : answered_lines answers ≡ lines_of p.caller lines
-    pub follows : PerformsLines (frame_of p) p.caller answers p.seen q.seen
-    pub said : GrewUnless lost said₀ said₁ (map said_of answers)
+-- the pass's caller has performed its own lines among these, in order, and its answers were kept unless
+-- memory ran out
+pub record HasPerformed (manifests : Manifests) (lines : List Line) (p q : RealmPass) (g h : GatesView)
+    (said₀ said₁ : List Said) (lost : Bool) : Type 0 where
+  pub keeps : KeepsPass manifests p q g h
+  pub answers : List AnsweredLine
+  pub own_lines : answered_lines answers ≡ lines_of p.caller lines
+  pub follows : PerformsLines (frame_of p) p.caller answers p.seen q.seen
+  pub said : GrewUnless lost said₀ said₁ (map said_of answers)
 
 module _ {G : Type 0} where
   -- a lane that holds a pass of this lock
@@ -89,6 +88,6 @@ module _ {G : Type 0} (log_of : G → Option (List GateCall)) (faults_of : G →
     pub q : RealmPass
     pub was : old.pass ≡ Some p
     pub now : new.pass ≡ Some q
-    pub performed : HasPerformed log_of faults_of manifests lines p q old.gates new.gates old.said.items
-        new.said.items new.lost
+    pub performed : HasPerformed manifests lines p q (gates_view log_of faults_of old.gates)
+        (gates_view log_of faults_of new.gates) old.said.items new.said.items new.lost
     pub lost : new.lost ≡ false → old.lost ≡ false

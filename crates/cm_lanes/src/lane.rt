@@ -2,13 +2,14 @@
 
 ghost use Rattle.std.specs.Prelude.{◌≡◌, All, Some};
 ghost use Rattle.cm_lanes.specs.ScriptInside.{IsFit};
-ghost use Rattle.cm_manager.specs.Kept.{IsOwnPass};
+ghost use Rattle.cm_manager.specs.Caller.{IsSameCaller};
+ghost use Rattle.cm_manager.specs.Kept.{IsOwnPass, gates_view};
 ghost use Rattle.cm_lanes.specs.Lane.{IsReadyLane, HasPerformed, PutsUnless, LaneWorked};
 
 use crate::Said;
 use cm_command::Line;
 use cm_gate::Gates;
-use cm_manager::Manager;
+use cm_manager::{Caller, Manager};
 use cm_turn::Pass;
 use cm_world::{Entry, Frame};
 use std::alloc::Global;
@@ -43,9 +44,40 @@ fn tell(said: &mut VecDeque<Said>, answer: Said, lost: bool) -> bool
     }
 }
 
-/// Performs those of the lines in order that are the lane's own. The answer says whether one of
-/// its answers was lost, because memory ran out for the list.
+/// Performs those of the lines in order that are of the lane of this number, the caller's own. The answer
+/// says whether one of its answers was lost, because memory ran out for the list.
 fn perform_lines<R: Threads + Wait + Sync, G: Gates>(
+    caller: &mut Caller<'_, R, G>,
+    number: u32,
+    lines: &[Line],
+    said: &mut VecDeque<Said>,
+) -> bool
+    requires number { number ≡ caller.old.pass.caller }
+    requires own { IsOwnPass caller.old.pass }
+    requires fit { All IsFit lines.now }
+    ensures same { IsSameCaller caller.old caller.new }
+    ensures performed { HasPerformed caller.old.manager.manifests lines.now caller.old.pass caller.new.pass
+        caller.old.gates caller.new.gates said.old.items said.new.items result }
+{
+    let mut lost = false;
+    for line in lines {
+        if line.lane != number {
+            continue;
+        }
+        let result = caller.perform(&line.command);
+        let answer = Said {
+            line: line.line,
+            lane: line.lane,
+            result,
+        };
+        lost = tell(said, answer, lost);
+    }
+    lost
+}
+
+/// Performs those of the lines in order that are the lane's own, with its pass and its gates. The answer says
+/// whether one of its answers was lost, because memory ran out for the list.
+fn perform_own<R: Threads + Wait + Sync, G: Gates>(
     rt: &R,
     alloc: Global,
     manager: &Manager,
@@ -57,25 +89,14 @@ fn perform_lines<R: Threads + Wait + Sync, G: Gates>(
     requires lock { pass.lock ≡ manager.now.turn.lock }
     requires own { IsOwnPass pass }
     requires fit { All IsFit lines.now }
-    ensures performed { HasPerformed G.log G.faults manager.now.manifests lines.now pass result.0
-        gates.old gates.new said.old.items said.new.items result.1 }
+    ensures performed { HasPerformed manager.now.manifests lines.now pass result.0
+        (gates_view G.log G.faults gates.old) (gates_view G.log G.faults gates.new)
+        said.old.items said.new.items result.1 }
 {
-    let caller = pass.caller();
-    let mut pass = pass;
-    let mut lost = false;
-    for line in lines {
-        if line.lane != caller {
-            continue;
-        }
-        let (back, result) = manager.perform(rt, alloc, pass, gates, &line.command);
-        pass = back;
-        let answer = Said {
-            line: line.line,
-            lane: line.lane,
-            result,
-        };
-        lost = tell(said, answer, lost);
-    }
+    let number = pass.caller();
+    let mut caller = Caller::new(rt, alloc, manager, pass, gates);
+    let lost = perform_lines(&mut caller, number, lines, said);
+    let (pass, _gates) = caller.into_parts();
     (pass, lost)
 }
 
@@ -101,7 +122,7 @@ pub(crate) fn work<R: Threads + Wait + Sync, G: Gates>(
     let Some(pass) = lane.pass.take() else {
         unreachable!()
     };
-    let (pass, lost) = perform_lines(
+    let (pass, lost) = perform_own(
         rt,
         alloc,
         manager,

@@ -51,8 +51,8 @@ pub record Joins (f : Frame) (c : ℕ) (k : ActKind) (i a : ℕ) (o : Outcome) (
   pub asks : AddsWithinRoom f c h₀ (event.Begin k i) (reply.Joined a) h₁
   pub makes : AddsOneEntry c h₁ (event.Await a) (reply.Ended o) h₂
 
--- what a begin came to: it was begun and ended, was joined, had nothing to begin, needs a row resolved
--- first, or the call ended
+-- what a begin came to, with its end, as `begin` of a caller promises it: the action was begun and ended, was
+-- joined, had nothing to begin, needs a row resolved first, or the call ended
 abbrev pub BeginRun : Frame → ℕ → ActKind → ℕ → Result Began Refusal → List Entry → List Entry → Type 0
 BeginRun f c k i (Ok (began.Ended a o eager)) h₀ h₁ = EndsBegun f c k i a o eager h₀ h₁
 BeginRun f c k i (Ok (began.Joined a o)) h₀ h₁ = Joins f c k i a o h₀ h₁
@@ -68,29 +68,29 @@ abbrev pub behind_eager : ℕ → Option Refusal → Result ActionResult Refusal
 behind_eager a None = Ok (acted.Ended kind.Start a outcome.Started)
 behind_eager a (Some x) = Err x
 
--- what a start came to: it is over; or it becomes a whole run together with whatever its eager
--- children come to
+-- what a start without its eager children came to, as `start_one` of a caller promises it: it is over; or it
+-- becomes a whole run together with whatever its eager children come to
 abbrev pub StartsBy : Frame → ℕ → ℕ → Launch → List Entry → List Entry → Type 0
 StartsBy f c i (launch.Settled went) h₀ h₁ = RunsAction f c kind.Start i h₀ h₁ went
 StartsBy f c i (launch.Children a eager) h₀ h₁ =
     (h₂ : List Entry) (end : Option Refusal) → StartsEager f c eager h₁ h₂ end
     → RunsAction f c kind.Start i h₀ h₂ (behind_eager a end)
 
--- what the begin of a start came to: the start as above, or a row that has to be resolved first
+-- what the begin of a start came to, as `launch_of` tells it: the start as above, or a row to resolve first
 abbrev pub LaunchesBy : Frame → ℕ → ℕ → Result Launch ℕ → List Entry → List Entry → Type 0
 LaunchesBy f c i (Ok started) h₀ h₁ = StartsBy f c i started h₀ h₁
 LaunchesBy f c i (Err j) h₀ h₁ = AddsWithinRoom f c h₀ (event.Begin kind.Start i) (reply.Need j) h₁
 
--- what one pick came to: all is done, or the call ended; or it becomes a whole run of stops with
--- whatever later picks come to
+-- what one pick came to, with the stop that it asks for, as `pick_one` of a caller promises it: all is done,
+-- or the call ended; or it becomes a whole run of stops with whatever later picks come to
 abbrev pub PickRun : Frame → ℕ → ℕ → PickTurn → List Entry → List Entry → Type 0
 PickRun f c t picked.Done h₀ h₁ = AddsWithinRoom f c h₀ (event.Pick t) reply.Done h₁
 PickRun f c t picked.Further h₀ h₁ =
     (h₂ : List Entry) (end : Option Refusal) → Stops f c t h₁ h₂ end → Stops f c t h₀ h₂ end
 PickRun f c t (picked.Cut x) h₀ h₁ = EndsWithoutEntry f c h₀ (event.Pick t) h₁ x
 
--- how a reply is read: as asking for an action before its event can be decided, or as the one that
--- decides it
+-- how a reply is read where an event is tried (`reading`): as asking for an action before its event can be
+-- decided, or as the one that decides it
 abbrev pub ReadsBy : Reply → Demand → Type 0
 ReadsBy r (demand.Action k j) = needed r ≡ Some (k, j)
 ReadsBy r (demand.Decided s) = (s ≡ r) × (needed r ≡ None)

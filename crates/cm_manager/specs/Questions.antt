@@ -18,17 +18,17 @@ use Rattle.cm_manager.specs.Shutdowns.{Shuts, Destroys}
 use Rattle.cm_answers.specs.AnswersInside.{answer_by}
 use Rattle.cm_answers.specs.Questions.{event_for}
 
--- what follows the reply to a request of a row
+-- what follows the reply to a request: a start after a create, a sweep after an exit, else nothing
 abbrev pub FollowsBy : Frame → ℕ → Request → ℕ → Reply → CallWay (Option Refusal)
 FollowsBy f c (request.Create coll name url gives) = OnceCreated f c
 FollowsBy f c request.Exited = SweptLeft f c
 FollowsBy f c _ = λ i r. Nothing
 
--- the run of a request of a row, with what follows it
+-- the run of a request to an instance, with what follows its reply; `request` of `parts.rt` promises it
 abbrev pub Requested : Frame → ℕ → Request → ℕ → CallWay (Result Answer Refusal)
 Requested f c r = CallsEventThen f c (event_for r) (FollowsBy f c r)
 
--- the run of what a call asks of a row, with the answer
+-- the run of what a call asks of an instance, with the answer; what `calls.rt` promises of any question
 abbrev pub AnswersTo : Frame → ℕ → Question → ℕ → CallWay (Result Answer Refusal)
 AnswersTo f c (question.Act k) = CallsAction f c k (answer_by k)
 AnswersTo f c question.Shutdown = λ i. ComesToAnswer answer.Shut (Shuts f c false i)

@@ -1,7 +1,8 @@
 //! A caller of the manager: its pass and its gates, in its turns and between them.
 //!
-//! The parts of a call are methods of a caller. The calls themselves take a pass and gates, and give the pass
-//! back: each makes a caller of these, and takes it apart at its end.
+//! Who has many commands makes one caller for them, performs each, and takes it apart at the end. The parts
+//! of a call are methods of a caller too. The calls of [`Manager`] take a pass and gates, and give the pass
+//! back: each makes a caller of these for itself.
 
 ghost use Rattle.std.specs.Prelude.{◌≡◌};
 ghost use Rattle.cm_world.specs.declared.event.Event.TheVariants as event;
@@ -27,9 +28,9 @@ use std::marker::Model;
 use std::sync::Wait;
 use std::thread::Threads;
 
-/// A caller of a manager. Contracts see the manager, the pass, which is one of its lock, and the
-/// gates by their log and their count of faults.
-pub(crate) struct Caller<'a, R, G: Gates> {
+/// A caller of a manager, which holds its pass and borrows its gates. Contracts see the manager, the pass,
+/// which is one of its lock, and the gates by their log and their count of faults.
+pub struct Caller<'a, R, G: Gates> {
     pub(crate) rt: &'a R,
     pub(crate) alloc: Global,
     pub(crate) manager: &'a Manager,
@@ -57,8 +58,8 @@ impl<'a, R, G: Gates> Model for Caller<'a, R, G> {
 }
 
 impl<'a, R: Threads + Wait + Sync, G: Gates> Caller<'a, R, G> {
-    /// A caller with a pass of the manager's lock.
-    pub(crate) fn new(
+    /// A caller with a pass of the manager's lock, at any time between two calls with this pass.
+    pub fn new(
         rt: &'a R,
         alloc: Global,
         manager: &'a Manager,
@@ -80,8 +81,8 @@ impl<'a, R: Threads + Wait + Sync, G: Gates> Caller<'a, R, G> {
         }
     }
 
-    /// Its pass and its gates.
-    pub(crate) fn into_parts(self) -> (Pass<Entry, Frame>, &'a mut G)
+    /// The pass and the gates, which are those that it was made with. It may be taken apart at any time.
+    pub fn into_parts(self) -> (Pass<Entry, Frame>, &'a mut G)
         ensures pass { result.0 ≡ self.entry.pass }
         ensures name { result.1.ghost_name ≡ self.entry.name }
         ensures gates { gates_view G.log G.faults result.1.now ≡ self.entry.gates }
@@ -95,6 +96,25 @@ impl<'a, R: Threads + Wait + Sync, G: Gates> Caller<'a, R, G> {
         } = self;
         let Some(pass) = pass else { unreachable!() };
         (pass, gates)
+    }
+
+    /// The runtime, for what is done beside the calls. It may be asked for at any time.
+    pub fn rt(&self) -> &'a R {
+        self.rt
+    }
+
+    /// The allocator, for what is done beside the calls. It may be asked for at any time.
+    pub fn alloc(&self) -> Global {
+        self.alloc
+    }
+
+    /// Gives the permit back, at the end of a call.
+    pub(crate) fn give_back(&self) {
+        let Some(idle) = &self.pass else {
+            unreachable!()
+        };
+        let manager = self.manager;
+        manager.permit.give_back(idle.caller());
     }
 
     /// Makes the event, in a later turn again while it has to wait.

@@ -74,17 +74,38 @@ impl<'a, R: Threads + Wait + Sync, G: Gates> Caller<'a, R, G> {
     }
 
     /// Finds the instance that a target names, and answers a question of it.
-    fn call(&mut self, target: &Target, question: Question<'_>) -> Result<Answer, Refusal>
+    fn find_and_answer(
+        &mut self,
+        target: &Target,
+        question: Question<'_>,
+    ) -> Result<Answer, Refusal>
         ensures { CallerPerforms (asked_by target.now question.entry) self.old self.new result }
     {
         let inc = self.find_row(target)?;
         self.answer(inc, question)
     }
+
+    /// Makes one call, and gives the permit back.
+    fn call(&mut self, target: &Target, question: Question<'_>) -> Result<Answer, Refusal>
+        ensures { CallerPerforms (asked_by target.now question.entry) self.old self.new result }
+    {
+        let answer = self.find_and_answer(target, question);
+        self.give_back();
+        answer
+    }
+
+    /// Makes the call that a command names, and answers so, as [`Manager::perform`] does. It may be called
+    /// again and again, and what the caller has then is what the next call begins with.
+    pub fn perform(&mut self, command: &Command) -> Result<Answer, Refusal>
+        ensures performs { CallerPerforms command.now self.old self.new result }
+    {
+        let (target, question) = question_of(command);
+        self.call(target, question)
+    }
 }
 
 impl Manager {
-    /// Finds the instance that a target names, and answers a question of it. It gives the permit
-    /// back.
+    /// Makes one call with this pass and these gates.
     pub(crate) fn call<R: Threads + Wait + Sync, G: Gates>(
         &self,
         rt: &R,
@@ -102,7 +123,6 @@ impl Manager {
         let mut caller = Caller::new(rt, alloc, self, pass, gates);
         let answer = caller.call(target, question);
         let (pass, _gates) = caller.into_parts();
-        self.permit.give_back(pass.caller());
         (pass, answer)
     }
 
@@ -425,7 +445,9 @@ impl Manager {
         ensures performs { PerformsWith G.log G.faults self.now.manifests command.now
             pass result.0 gates.old gates.new result.1 }
     {
-        let (target, question) = question_of(command);
-        self.call(rt, alloc, pass, gates, target, question)
+        let mut caller = Caller::new(rt, alloc, self, pass, gates);
+        let answer = caller.perform(command);
+        let (pass, _gates) = caller.into_parts();
+        (pass, answer)
     }
 }

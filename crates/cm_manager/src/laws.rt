@@ -7,7 +7,8 @@ ghost use Rattle.cm_manager.specs.Laws as laws;
 
 use cm_laws::{marks_stay, shutdowns_last};
 
-/// What an answer says of an instance holds in the tree that the caller has seen then.
+/// What an answer says of an instance holds in the tree that the caller has seen then. A `Manager` calls it,
+/// for this fact, in its `shutdown` and `destroy`.
 ///
 /// Behind a shutdown that was answered `Shut`, all at and below the instance that the call found
 /// for its target is shut. Behind a destruction that was answered `Destroyed`, that instance was

@@ -7,7 +7,7 @@
 
 mod acts;
 mod began;
-mod caller;
+pub mod caller;
 mod calls;
 mod doctor;
 pub mod laws;
@@ -22,4 +22,5 @@ mod trying;
 mod turns;
 mod work;
 
+pub use caller::Caller;
 pub use manager::Manager;

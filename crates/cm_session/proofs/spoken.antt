@@ -2,3 +2,4 @@ pub mod Cutting
 pub mod Order
 pub mod Kept
 pub mod Sessions
+pub mod Callers

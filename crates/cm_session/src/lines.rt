@@ -4,18 +4,18 @@ ghost use Rattle.std.specs.Prelude.{◌≡◌, ◌≢◌, ◌≤◌, ◌++◌, �
 ghost use Rattle.std.specs.Prelude.{IfOk};
 ghost use Rattle.cm_reply.specs.Journal.{line as line_of};
 ghost use Rattle.cm_reply.specs.Answers as answers;
-ghost use Rattle.cm_manager.specs.Gated.{gates_view};
+ghost use Rattle.cm_manager.specs.Caller.{IsSameCaller};
 ghost use Rattle.cm_io.specs.Orders.{hung_up};
 ghost use Rattle.cm_session.specs.Links.{source_view, view_of};
 ghost use Rattle.cm_session.specs.LinksInside.{side_view};
-ghost use Rattle.cm_session.specs.Session.{SessionWith};
+ghost use Rattle.cm_session.specs.Session.{Session, SessionClosedBy, SessionWith};
 ghost use Rattle.cm_session.specs.Steps.{LineWrote, RepliesInOrder, ServedCommand, ServedOrNot, Stepped};
 
 use crate::Ended;
 use cm_command::{Command, CommandFault, read_command};
 use cm_gate::Gates;
 use cm_io::{LineReader, Link, Next, Put, put_all};
-use cm_manager::Manager;
+use cm_manager::{Caller, Manager};
 use cm_names::{Memory, Text};
 use cm_reply::reply_text;
 use cm_turn::Pass;
@@ -109,119 +109,112 @@ fn refuse<R: Threads + Wait + Sync, L: Link>(
 
 /// Performs a command and writes its reply. The result says why the session ends for it, if it does.
 fn serve_command<R: Threads + Wait + Sync, G: Gates, L: Link>(
-    rt: &R,
-    alloc: Global,
-    manager: &Manager,
-    pass: Pass<Entry, Frame>,
-    gates: &mut G,
+    caller: &mut Caller<'_, R, G>,
     link: &mut L,
     command: &Command,
-) -> (Pass<Entry, Frame>, Option<Ended>)
-    requires lock { pass.lock ≡ manager.now.turn.lock }
-    ensures served { ServedCommand manager.now.manifests pass result.0
-        (gates_view G.log G.faults gates.old) (gates_view G.log G.faults gates.new)
-        command.now (side_view L.Source L.Sink link.old) (side_view L.Source L.Sink link.new) result.1 }
+) -> Option<Ended>
+    ensures same { IsSameCaller caller.old caller.new }
+    ensures served { ServedCommand caller.old.manager.manifests caller.old.pass caller.new.pass
+        caller.old.gates caller.new.gates
+        command.now (side_view L.Source L.Sink link.old) (side_view L.Source L.Sink link.new) result }
     ensures source { source_view L.Source link.new ≡ source_view L.Source link.old }
 {
-    let (pass, answer) = manager.perform(rt, alloc, pass, gates, command);
+    let answer = caller.perform(command);
     let wanting = is_out_of_memory(&answer);
-    let ended = match answer_line(alloc, command, &answer) {
-        Ok(text) => put_reply(rt, link, text.as_str().as_bytes(), wanting),
-        Err(Memory) => put_reply(rt, link, WANTING, true),
+    let ended = match answer_line(caller.alloc(), command, &answer) {
+        Ok(text) => put_reply(caller.rt(), link, text.as_str().as_bytes(), wanting),
+        Err(Memory) => put_reply(caller.rt(), link, WANTING, true),
     };
     drop(answer);
-    (pass, ended)
+    ended
 }
 
 /// Serves a line that isn't `quit`. The result says why the session ends for it, if it does.
 fn serve_line<R: Threads + Wait + Sync, G: Gates, L: Link>(
-    rt: &R,
-    alloc: Global,
-    manager: &Manager,
-    pass: Pass<Entry, Frame>,
-    gates: &mut G,
+    caller: &mut Caller<'_, R, G>,
     link: &mut L,
     line: &[u8],
-) -> (Pass<Entry, Frame>, Option<Ended>)
-    requires lock { pass.lock ≡ manager.now.turn.lock }
+) -> Option<Ended>
     requires short { length line.now ≤ 65536 }
-    ensures served { ServedOrNot manager.now.manifests pass result.0
-        (gates_view G.log G.faults gates.old) (gates_view G.log G.faults gates.new)
-        line.now (side_view L.Source L.Sink link.old) (side_view L.Source L.Sink link.new) result.1 }
+    ensures same { IsSameCaller caller.old caller.new }
+    ensures served { ServedOrNot caller.old.manager.manifests caller.old.pass caller.new.pass
+        caller.old.gates caller.new.gates
+        line.now (side_view L.Source L.Sink link.old) (side_view L.Source L.Sink link.new) result }
     ensures source { source_view L.Source link.new ≡ source_view L.Source link.old }
 {
-    match read_command(alloc, line) {
+    match read_command(caller.alloc(), line) {
         Ok(command) => {
-            let served = serve_command(rt, alloc, manager, pass, gates, link, &command);
+            let ended = serve_command(caller, link, &command);
             drop(command);
-            served
+            ended
         }
-        Err(CommandFault::BadCommand(at)) => {
-            let ended = refuse(rt, alloc, link, at);
-            (pass, ended)
-        }
-        Err(CommandFault::Memory) => (pass, Some(Ended::Memory)),
+        Err(CommandFault::BadCommand(at)) => refuse(caller.rt(), caller.alloc(), link, at),
+        Err(CommandFault::Memory) => Some(Ended::Memory),
     }
 }
 
 /// Takes the next line and serves it. The result says why the session ends with it, if it does.
 fn serve_next<R: Threads + Wait + Sync, G: Gates, L: Link>(
-    rt: &R,
-    alloc: Global,
-    manager: &Manager,
-    pass: Pass<Entry, Frame>,
-    gates: &mut G,
+    caller: &mut Caller<'_, R, G>,
     link: &mut L,
     reader: &mut LineReader,
-) -> (Pass<Entry, Frame>, Option<Ended>)
-    requires lock { pass.lock ≡ manager.now.turn.lock }
-    ensures stepped { Stepped manager.now.manifests pass result.0
-        (gates_view G.log G.faults gates.old) (gates_view G.log G.faults gates.new)
-        reader.old reader.new
-        (view_of L.Source L.Sink link.old) (view_of L.Source L.Sink link.new) result.1 }
+) -> Option<Ended>
+    ensures same { IsSameCaller caller.old caller.new }
+    ensures stepped { Stepped caller.old.manager.manifests caller.old.pass caller.new.pass
+        caller.old.gates caller.new.gates reader.old reader.new
+        (view_of L.Source L.Sink link.old) (view_of L.Source L.Sink link.new) result }
 {
-    match reader.next(rt, link) {
+    match reader.next(caller.rt(), link) {
         Next::Line(line) => {
             if line.as_slice() == QUIT {
-                return (pass, Some(Ended::Quit));
+                return Some(Ended::Quit);
             }
-            serve_line(rt, alloc, manager, pass, gates, link, line.as_slice())
+            serve_line(caller, link, line.as_slice())
         }
-        Next::TooLong => {
-            let over = put_reply(rt, link, TOO_LONG, false);
-            (pass, over)
-        }
-        Next::End => (pass, Some(Ended::End)),
-        Next::ReadFault => (pass, Some(Ended::ReadFault)),
-        Next::Memory => (pass, Some(Ended::Memory)),
+        Next::TooLong => put_reply(caller.rt(), link, TOO_LONG, false),
+        Next::End => Some(Ended::End),
+        Next::ReadFault => Some(Ended::ReadFault),
+        Next::Memory => Some(Ended::Memory),
     }
 }
 
 /// Serves line after line, until the session ends; the answer says why it ended.
 fn serve_lines<R: Threads + Wait + Sync, G: Gates, L: Link>(
-    rt: &R,
-    alloc: Global,
-    manager: &Manager,
-    pass: Pass<Entry, Frame>,
-    gates: &mut G,
+    caller: &mut Caller<'_, R, G>,
     link: &mut L,
     reader: &mut LineReader,
-) -> (Pass<Entry, Frame>, Ended)
-    requires lock { pass.lock ≡ manager.now.turn.lock }
+) -> Ended
     requires fresh { reader.old ≡ record { held = []; over = false } }
-    ensures session { SessionWith G.log G.faults (view_of L.Source L.Sink) [] manager.now.manifests
-        pass result.0 gates.old gates.new link.old link.new result.1 }
+    ensures same { IsSameCaller caller.old caller.new }
+    ensures session { SessionClosedBy [] caller.old.manager.manifests caller.old.pass caller.new.pass
+        caller.old.gates caller.new.gates
+        (view_of L.Source L.Sink link.old) (view_of L.Source L.Sink link.new) result }
 {
-    let mut pass = pass;
     for line in 0..LINES {
         let _number = line;
-        let (back, ended) = serve_next(rt, alloc, manager, pass, gates, link, reader);
-        pass = back;
-        if let Some(ended) = ended {
-            return (pass, ended);
+        if let Some(ended) = serve_next(caller, link, reader) {
+            return ended;
         }
     }
-    (pass, Ended::LinesSpent)
+    Ended::LinesSpent
+}
+
+/// Serves one link to its end with this caller, as [`session`] does.
+pub(crate) fn serve<R: Threads + Wait + Sync, G: Gates, L: Link>(
+    caller: &mut Caller<'_, R, G>,
+    link: &mut L,
+) -> Ended
+    ensures same { IsSameCaller caller.old caller.new }
+    ensures session { Session caller.old.manager.manifests caller.old.pass caller.new.pass
+        caller.old.gates caller.new.gates
+        (view_of L.Source L.Sink link.old) (view_of L.Source L.Sink link.new) result }
+{
+    let ended = match LineReader::new(caller.alloc()) {
+        Ok(mut reader) => serve_lines(caller, link, &mut reader),
+        Err(Memory) => Ended::Memory,
+    };
+    link.hang_up(caller.rt());
+    ended
 }
 
 /// Serves one link to its end.
@@ -248,10 +241,8 @@ pub fn session<R: Threads + Wait + Sync, G: Gates, L: Link>(
     ensures session { SessionWith G.log G.faults (view_of L.Source L.Sink) (hung_up ∷ [])
         manager.now.manifests pass result.0 gates.old gates.new link.old link.new result.1 }
 {
-    let (pass, ended) = match LineReader::new(alloc) {
-        Ok(mut reader) => serve_lines(rt, alloc, manager, pass, gates, link, &mut reader),
-        Err(Memory) => (pass, Ended::Memory),
-    };
-    link.hang_up(rt);
+    let mut caller = Caller::new(rt, alloc, manager, pass, gates);
+    let ended = serve(&mut caller, link);
+    let (pass, _gates) = caller.into_parts();
     (pass, ended)
 }

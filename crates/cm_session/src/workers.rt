@@ -2,6 +2,7 @@
 
 ghost use Rattle.std.specs.Prelude.{◌≡◌, ◌≢◌, ◌<◌, ◌≤◌, ℕ, [], All, false, length, slice_index_or, true};
 ghost use Rattle.std.specs.Prelude.{vec_capacity};
+ghost use Rattle.cm_manager.specs.Caller.{IsSameCaller};
 ghost use Rattle.cm_manager.specs.Gated.{gates_view};
 ghost use Rattle.cm_session.specs.declared.workers.Worker.{Worker as WorkerOf};
 ghost use Rattle.cm_session.specs.Pool.{PoolWorked, DidWork, IsReadyWorker, ServesLink, ServesLinks};
@@ -9,11 +10,12 @@ ghost use Rattle.cm_session.specs.Doorway.{OnGiven, TakesTurn, sessions_of};
 ghost use Rattle.cm_session.specs.Links.{view_of};
 ghost use Rattle.cm_session.specs.Serving.{IsNewLink};
 
+use crate::Ended;
 use crate::doorway::{Accepted, Doorway, Opening};
-use crate::{Ended, session};
+use crate::lines::serve;
 use cm_gate::Gates;
 use cm_io::{Accept, Door, Link};
-use cm_manager::Manager;
+use cm_manager::{Caller, Manager};
 use cm_turn::{Pass, Turn};
 use cm_world::{Entry, Frame};
 use std::alloc::Global;
@@ -57,24 +59,19 @@ fn take_turn<R: Threads + Wait + Sync, D: Door>(
 
 /// Puts a link among the worker's links, and serves it there by a session.
 fn serve_link<R: Threads + Wait + Sync, G: Gates, L: Link>(
-    rt: &R,
-    alloc: Global,
-    manager: &Manager,
-    pass: Pass<Entry, Frame>,
-    gates: &mut G,
+    caller: &mut Caller<'_, R, G>,
     links: &mut Vec<L>,
     link: L,
-) -> (Pass<Entry, Frame>, Ended)
-    requires lock { pass.lock ≡ manager.now.turn.lock }
+) -> Ended
     requires room { length links.old.items < vec_capacity links.old }
-    ensures served { ServesLink (view_of L.Source L.Sink) manager.now.manifests pass result.0
-        (gates_view G.log G.faults gates.old) (gates_view G.log G.faults gates.new)
-        link links.old.items links.new.items result.1 }
+    ensures same { IsSameCaller caller.old caller.new }
+    ensures served { ServesLink (view_of L.Source L.Sink) caller.old.manager.manifests caller.old.pass
+        caller.new.pass caller.old.gates caller.new.gates link links.old.items links.new.items result }
     ensures room { vec_capacity links.new ≡ vec_capacity links.old }
 {
     let last = links.len();
     links.push_reserved(link);
-    session(rt, alloc, manager, pass, gates, &mut links[last])
+    serve(caller, &mut links[last])
 }
 
 /// Whether a session ended for lack of memory.
@@ -92,6 +89,45 @@ fn is_lost(ended: Ended) -> bool
 /// Accepts links and serves each, until no further accept is due, or a session ended for lack of
 /// memory. The answer says which.
 fn serve_links<R: Threads + Wait + Sync, G: Gates, D: Door>(
+    caller: &mut Caller<'_, R, G>,
+    door: &Turn<Doorway<D>>,
+    at_door: Pass<Accepted, Opening>,
+    links: &mut Vec<D::Link>,
+) -> (Pass<Accepted, Opening>, bool)
+    requires door { at_door.lock ≡ door.now.lock }
+    requires new { at_door.mine ≡ [] }
+    requires none { links.old.items ≡ [] }
+    requires room { sessions_of at_door ≤ vec_capacity links.old }
+    ensures same { IsSameCaller caller.old caller.new }
+    ensures served { ServesLinks (view_of D.Link.Source D.Link.Sink) caller.old.manager.manifests
+        caller.old.pass caller.new.pass caller.old.gates caller.new.gates
+        at_door result.0 links.new.items result.1 }
+{
+    let rt = caller.rt();
+    let mut at_door = at_door;
+    for _ in rt.forever() {
+        let (back, turned) = take_turn(rt, door, at_door);
+        at_door = back;
+        let accept = match turned {
+            Some(accept) => accept,
+            None => return (at_door, false),
+        };
+        let link = match accept {
+            Accept::Link(link) => link,
+            // The next turn finds this among the entries.
+            Accept::Closed => continue,
+            Accept::Failed => continue,
+        };
+        let ended = serve_link(caller, links, link);
+        if is_lost(ended) {
+            return (at_door, true);
+        }
+    }
+    unreachable!()
+}
+
+/// Accepts links and serves each with this pass and these gates, as `serve_links` does.
+fn serve_own<R: Threads + Wait + Sync, G: Gates, D: Door>(
     rt: &R,
     alloc: Global,
     manager: &Manager,
@@ -110,28 +146,10 @@ fn serve_links<R: Threads + Wait + Sync, G: Gates, D: Door>(
         (gates_view G.log G.faults gates.old) (gates_view G.log G.faults gates.new)
         at_door result.1 links.new.items result.2 }
 {
-    let mut pass = pass;
-    let mut at_door = at_door;
-    for _ in rt.forever() {
-        let (back, turned) = take_turn(rt, door, at_door);
-        at_door = back;
-        let accept = match turned {
-            Some(accept) => accept,
-            None => return (pass, at_door, false),
-        };
-        let link = match accept {
-            Accept::Link(link) => link,
-            // The next turn finds this among the entries.
-            Accept::Closed => continue,
-            Accept::Failed => continue,
-        };
-        let (back, ended) = serve_link(rt, alloc, manager, pass, gates, links, link);
-        pass = back;
-        if is_lost(ended) {
-            return (pass, at_door, true);
-        }
-    }
-    unreachable!()
+    let mut caller = Caller::new(rt, alloc, manager, pass, gates);
+    let (at_door, lost) = serve_links(&mut caller, door, at_door, links);
+    let (pass, _gates) = caller.into_parts();
+    (pass, at_door, lost)
 }
 
 /// Whether the worker of this pass is none of the first so many.
@@ -165,7 +183,7 @@ fn work<R: Threads + Wait + Sync, G: Gates, D: Door>(
     let Some(pass) = worker.pass.take() else {
         unreachable!()
     };
-    let (pass, at_door, lost) = serve_links(
+    let (pass, at_door, lost) = serve_own(
         rt,
         alloc,
         manager,

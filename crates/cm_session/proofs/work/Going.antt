@@ -17,7 +17,6 @@ use Rattle.cm_session.specs.Serving.{AreWell, IsNewLink, IsOfLink, ServedLink, n
 use Rattle.cm_session.specs.Session.{Session}
 use Rattle.cm_session.proofs.links.Accepts.{counts_given, given_by}
 use Rattle.cm_session.proofs.links.Visits.{serves_more}
-use Rattle.cm_session.proofs.spoken.Kept.{lock_kept}
 
 pub no_more : (x y z n : ℕ) → x ≡ y + z → z ≡ 0 → y ≡ n → x ≡ n
 no_more x y z n more none is = grind (arith, more, none, is)
@@ -27,16 +26,15 @@ later_then d e f a b = record { lock = b.lock ∙ a.lock; frame = b.frame ∙ a.
 
 module _ {L : Type 0} (view : L → LinkView) (manifests : Manifests) where
   -- a worker serves, and may go on
-  pub record Going (realm door : LockView) (p q : RealmPass) (g h : GatesView) (d e : DoorPass) (links : List L) (capacity : ℕ) : Type 0 where
+  pub record Going (door : LockView) (p q : RealmPass) (g h : GatesView) (d e : DoorPass) (links : List L) (capacity : ℕ) : Type 0 where
     pub visits : List ServedLink
     pub served : HasServed view manifests visits p q g h d e links
     pub well : AreWell visits
-    pub of_realm : q.lock ≡ realm.lock
     pub of_door : e.lock ≡ door.lock
     pub room : sessions_of e ≤ capacity
 
-  pub going_none : (realm door : LockView) (p : RealmPass) (g : GatesView) (d : DoorPass) (links : List L) (capacity : ℕ) → p.lock ≡ realm.lock → d.lock ≡ door.lock → d.mine ≡ [] → links ≡ [] → sessions_of d ≤ capacity → Going realm door p p g g d d links capacity
-  going_none realm door p g d links capacity of_realm of_door new none room = record {
+  pub going_none : (door : LockView) (p : RealmPass) (g : GatesView) (d : DoorPass) (links : List L) (capacity : ℕ) → d.lock ≡ door.lock → d.mine ≡ [] → links ≡ [] → sessions_of d ≤ capacity → Going door p p g g d d links capacity
+  going_none door p g d links capacity of_door new none room = record {
     visits = [];
     served = record {
       serves = none_came;
@@ -46,14 +44,13 @@ module _ {L : Type 0} (view : L → LinkView) (manifests : Manifests) where
       counts = ap links_of new;
     };
     well = All-nil (λ (v : ServedLink). v.ended ≢ ended.Memory);
-    of_realm = of_realm;
     of_door = of_door;
     room = room;
   }
 
   -- a turn that gave no link
-  abbrev pub going_on : (realm door : LockView) (p q : RealmPass) (g h : GatesView) (d e f : DoorPass) (links : List L) (capacity : ℕ) (a : Option (Accept L)) → Going realm door p q g h d e links capacity → TakesTurn e f a → given_by a ≡ 0 → Going realm door p q g h d f links capacity
-  going_on realm door p q g h d e f links capacity a is turn none = record {
+  abbrev pub going_on : (door : LockView) (p q : RealmPass) (g h : GatesView) (d e f : DoorPass) (links : List L) (capacity : ℕ) (a : Option (Accept L)) → Going door p q g h d e links capacity → TakesTurn e f a → given_by a ≡ 0 → Going door p q g h d f links capacity
+  going_on door p q g h d e f links capacity a is turn none = record {
     visits = is.visits;
     served = record {
       serves = is.served.serves;
@@ -63,14 +60,13 @@ module _ {L : Type 0} (view : L → LinkView) (manifests : Manifests) where
       counts = no_more (links_of f.mine) (links_of e.mine) (given_by a) (length is.visits) (counts_given e f a turn) none is.served.counts;
     };
     well = is.well;
-    of_realm = is.of_realm;
     of_door = turn.same.lock ∙ is.of_door;
     room = subst (λ (n : ℕ). n ≤ capacity) (sym (ap sessions_in turn.same.frame)) is.room;
   }
 
   -- there is room for a link that came
-  pub fits : (realm door : LockView) (p q : RealmPass) (g h : GatesView) (d e f : DoorPass) (links : List L) (capacity : ℕ) (l : L) → Going realm door p q g h d e links capacity → TakesTurn e f (Some (accept.Link l)) → length links < capacity
-  fits realm door p q g h d e f links capacity l is turn =
+  pub fits : (door : LockView) (p q : RealmPass) (g h : GatesView) (d e f : DoorPass) (links : List L) (capacity : ℕ) (l : L) → Going door p q g h d e links capacity → TakesTurn e f (Some (accept.Link l)) → length links < capacity
+  fits door p q g h d e f links capacity l is turn =
       let as_many : length links ≡ length is.visits = sym (length-map links view) ∙ ap (λ (l : List LinkView). length l) is.served.links_are ∙ length-map is.visits (λ (v : ServedLink). v.now) in
       let sessions : sessions_of f ≡ sessions_of e = ap sessions_in turn.same.frame in
       grind (arith, as_many, sessions, counts_given e f (Some (accept.Link l)) turn, turn.few, is.served.counts, is.room)
@@ -87,19 +83,18 @@ module _ {L : Type 0} (view : L → LinkView) (manifests : Manifests) where
       }
 
   -- and the worker goes on
-  pub going_served : (realm door : LockView) (p q r : RealmPass) (g h k : GatesView) (d e f : DoorPass) (links links' : List L) (capacity : ℕ) (l : L) (end : Ended) → Going realm door p q g h d e links capacity → TakesTurn e f (Some (accept.Link l)) → IsNewLink (view l) → ServesLink view manifests q r h k l links links' end → end ≢ ended.Memory → Going realm door p r g k d f links' capacity
-  going_served realm door p q r g h k d e f links links' capacity l end is turn new s well = record {
+  pub going_served : (door : LockView) (p q r : RealmPass) (g h k : GatesView) (d e f : DoorPass) (links links' : List L) (capacity : ℕ) (l : L) (end : Ended) → Going door p q g h d e links capacity → TakesTurn e f (Some (accept.Link l)) → IsNewLink (view l) → ServesLink view manifests q r h k l links links' end → end ≢ ended.Memory → Going door p r g k d f links' capacity
+  going_served door p q r g h k d e f links links' capacity l end is turn new s well = record {
     visits = is.visits ++ record { was = view l; now = view s.now; ended = end } ∷ [];
     served = served_more is.visits p q r g h k d e f links links' l end is.served turn new s;
     well = All-push (λ (v : ServedLink). v.ended ≢ ended.Memory) is.visits (record { was = view l; now = view s.now; ended = end }) is.well well;
-    of_realm = lock_kept manifests q r h k s.session.keeps ∙ is.of_realm;
     of_door = turn.same.lock ∙ is.of_door;
     room = subst (λ (n : ℕ). n ≤ capacity) (sym (ap sessions_in turn.same.frame)) is.room;
   }
 
   -- or it stops, for lack of memory
-  pub stops_lost : (realm door : LockView) (p q r : RealmPass) (g h k : GatesView) (d e f : DoorPass) (links links' : List L) (capacity : ℕ) (l : L) (end : Ended) → Going realm door p q g h d e links capacity → TakesTurn e f (Some (accept.Link l)) → IsNewLink (view l) → ServesLink view manifests q r h k l links links' end → end ≡ ended.Memory → ServesLinks view manifests p r g k d f links' true
-  stops_lost realm door p q r g h k d e f links links' capacity l end is turn new s lost = record {
+  pub stops_lost : (door : LockView) (p q r : RealmPass) (g h k : GatesView) (d e f : DoorPass) (links links' : List L) (capacity : ℕ) (l : L) (end : Ended) → Going door p q g h d e links capacity → TakesTurn e f (Some (accept.Link l)) → IsNewLink (view l) → ServesLink view manifests q r h k l links links' end → end ≡ ended.Memory → ServesLinks view manifests p r g k d f links' true
+  stops_lost door p q r g h k d e f links links' capacity l end is turn new s lost = record {
     visits = is.visits ++ record { was = view l; now = view s.now; ended = end } ∷ [];
     served = served_more is.visits p q r g h k d e f links links' l end is.served turn new s;
     stops = record {
@@ -116,10 +111,10 @@ module _ {L : Type 0} (view : L → LinkView) (manifests : Manifests) where
   }
 
   -- or because no further accept is due
-  pub stops_over : (realm door : LockView) (p q : RealmPass) (g h : GatesView) (d e f : DoorPass) (links : List L) (capacity : ℕ) (a : Option (Accept L)) → Going realm door p q g h d e links capacity → TakesTurn e f a → a ≡ None → ServesLinks view manifests p q g h d f links false
-  stops_over realm door p q g h d e f links capacity a is turn none = record {
+  pub stops_over : (door : LockView) (p q : RealmPass) (g h : GatesView) (d e f : DoorPass) (links : List L) (capacity : ℕ) (a : Option (Accept L)) → Going door p q g h d e links capacity → TakesTurn e f a → a ≡ None → ServesLinks view manifests p q g h d f links false
+  stops_over door p q g h d e f links capacity a is turn none = record {
     visits = is.visits;
-    served = (going_on realm door p q g h d e f links capacity a is turn (ap given_by none)).served;
+    served = (going_on door p q g h d e f links capacity a is turn (ap given_by none)).served;
     stops = record {
       lost = λ yes. absurd (true≢false (sym yes));
       well = λ no. is.well;
@@ -144,28 +139,28 @@ given_link d e a l turn is = subst (λ (x : Option (Accept _)). TakesTurn d e x)
 new_link : {L : Type 0} (P : L → Type 0) (a : Option (Accept L)) (l : L) → OnGiven a P → a ≡ Some (accept.Link l) → P l
 new_link P a l new is = subst (λ (x : Option (Accept _)). OnGiven x P) is new
 
-module _ {L : Type 0} (view : L → LinkView) (manifests : Manifests) (realm door : LockView) (p q : RealmPass) (g h : GatesView) (d e f : DoorPass) (links : List L) (capacity : ℕ) (is : Going view manifests realm door p q g h d e links capacity) (a : Option (Accept L)) (turn : TakesTurn e f a) where
+module _ {L : Type 0} (view : L → LinkView) (manifests : Manifests) (door : LockView) (p q : RealmPass) (g h : GatesView) (d e f : DoorPass) (links : List L) (capacity : ℕ) (is : Going view manifests door p q g h d e links capacity) (a : Option (Accept L)) (turn : TakesTurn e f a) where
   -- it closed
-  pub on_closed : a ≡ Some accept.Closed → Going view manifests realm door p q g h d f links capacity
-  on_closed closed = going_on view manifests realm door p q g h d e f links capacity a is turn (ap given_by closed)
+  pub on_closed : a ≡ Some accept.Closed → Going view manifests door p q g h d f links capacity
+  on_closed closed = going_on view manifests door p q g h d e f links capacity a is turn (ap given_by closed)
 
   -- it failed
-  pub on_failed : a ≡ Some accept.Failed → Going view manifests realm door p q g h d f links capacity
-  on_failed failed = going_on view manifests realm door p q g h d e f links capacity a is turn (ap given_by failed)
+  pub on_failed : a ≡ Some accept.Failed → Going view manifests door p q g h d f links capacity
+  on_failed failed = going_on view manifests door p q g h d e f links capacity a is turn (ap given_by failed)
 
   -- there is room for a link
   pub on_room : (l : L) → a ≡ Some (accept.Link l) → length links < capacity
-  on_room l given = fits view manifests realm door p q g h d e f links capacity l is (given_link e f a l turn given)
+  on_room l given = fits view manifests door p q g h d e f links capacity l is (given_link e f a l turn given)
 
   -- a link was served
-  pub on_served : (l : L) (r : RealmPass) (k : GatesView) (links' : List L) (capacity' : ℕ) (end : Ended) → a ≡ Some (accept.Link l) → OnGiven a (λ l. IsNewLink (view l)) → ServesLink view manifests q r h k l links links' end → capacity' ≡ capacity → end ≢ ended.Memory → Going view manifests realm door p r g k d f links' capacity'
-  on_served l r k links' capacity' end given new s same well = subst (λ (n : ℕ). Going view manifests realm door p r g k d f links' n) (sym same)
-      (going_served view manifests realm door p q r g h k d e f links links' capacity l end is (given_link e f a l turn given) (new_link (λ l. IsNewLink (view l)) a l new given) s well)
+  pub on_served : (l : L) (r : RealmPass) (k : GatesView) (links' : List L) (capacity' : ℕ) (end : Ended) → a ≡ Some (accept.Link l) → OnGiven a (λ l. IsNewLink (view l)) → ServesLink view manifests q r h k l links links' end → capacity' ≡ capacity → end ≢ ended.Memory → Going view manifests door p r g k d f links' capacity'
+  on_served l r k links' capacity' end given new s same well = subst (λ (n : ℕ). Going view manifests door p r g k d f links' n) (sym same)
+      (going_served view manifests door p q r g h k d e f links links' capacity l end is (given_link e f a l turn given) (new_link (λ l. IsNewLink (view l)) a l new given) s well)
 
   -- and that was the last one
   pub on_lost : (l : L) (r : RealmPass) (k : GatesView) (links' : List L) (end : Ended) → a ≡ Some (accept.Link l) → OnGiven a (λ l. IsNewLink (view l)) → ServesLink view manifests q r h k l links links' end → end ≡ ended.Memory → ServesLinks view manifests p r g k d f links' true
-  on_lost l r k links' end given new s lost = stops_lost view manifests realm door p q r g h k d e f links links' capacity l end is (given_link e f a l turn given) (new_link (λ l. IsNewLink (view l)) a l new given) s lost
+  on_lost l r k links' end given new s lost = stops_lost view manifests door p q r g h k d e f links links' capacity l end is (given_link e f a l turn given) (new_link (λ l. IsNewLink (view l)) a l new given) s lost
 
   -- no accept was due
   pub on_over : a ≡ None → ServesLinks view manifests p q g h d f links false
-  on_over none = stops_over view manifests realm door p q g h d e f links capacity a is turn none
+  on_over none = stops_over view manifests door p q g h d e f links capacity a is turn none

@@ -1,7 +1,7 @@
 use Rattle.std.proofs.Common.{refl}
 use Rattle.std.proofs.lemmas.Result.{err_from_is_err_and}
 use Rattle.cm_manager.proofs.callers.CallerRuns.{performs_found, performs_missed}
-use Rattle.cm_manager.proofs.caller.Caller.call.Goals as goal
+use Rattle.cm_manager.proofs.caller.Caller.find_and_answer.Goals as goal
 
 pub returns : goal.returns
 returns g c = performs_found _ _ _ _ _ _ _ _ refl c.in_ok-inc.ensures c.answer.ensures
