@@ -6,3 +6,5 @@ pub mod Printing
 pub mod Reporting
 pub mod RunLemmas
 pub mod Saying
+pub mod VerdictLemmas
+pub mod Handing

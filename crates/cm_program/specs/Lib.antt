@@ -5,6 +5,7 @@ pub mod Texts
 pub mod Written
 pub mod Checks
 pub mod Audits
+pub mod Verdicts
 pub mod Printed
 pub mod PrintedInside
 pub mod Reported

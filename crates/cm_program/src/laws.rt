@@ -1,7 +1,7 @@
 //! Laws of scripts that are served, and of runs.
 //!
-//! These functions do nothing: what each of them promises is a fact about scripts and runs, which
-//! its proof shows.
+//! These functions do nothing, and no code calls them: what each of them promises is a fact about
+//! scripts and runs, which its proof shows.
 
 ghost use Rattle.cm_program.specs.Laws.{BytesAskForOne, RunsAreComplete, ServedAreNotRefused};
 ghost use Rattle.cm_session.specs.Links.{view_of};

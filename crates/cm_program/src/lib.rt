@@ -14,6 +14,7 @@
 //! | `Printed`, `Texts`, `Written` | what is printed, and what is known of bytes written |
 //! | `Reported` | the report on the tree at the end of a run, where one is wanted |
 //! | `Checks`, `Audits` | what `check` says of a manifest, and `audit` of a journal |
+//! | `Verdicts` | both of these, by what the input is taken for |
 //! | `Performing` | what the lanes made of a script |
 //! | `Closing` | what the program ends by |
 //! | `Complete`, `Unfailing` | which statuses and answers are left where nothing failed |
@@ -35,6 +36,7 @@ mod scripts;
 mod serving;
 mod sessions;
 mod stock;
+mod verdict;
 mod wanted;
 
 pub use ran::{Ran, out_of_memory};

@@ -71,6 +71,25 @@ pub fn stopped<D, L, G>(alloc: Global, status: u8, gates: List<G>, door: D) -> R
     }
 }
 
+/// What a run came to that had no need of this door, which is handed back as it is: no link came.
+pub fn without_links<D, L, G>(alloc: Global, ran: Finished<G>, door: D) -> Ran<D, L, G>
+    ensures { result ≡ record {
+      status = ran.status;
+      book = ran.book;
+      links = [];
+      gates = ran.gates;
+      door = door;
+    } }
+{
+    Ran {
+        status: ran.status,
+        book: ran.book,
+        links: List::new(alloc),
+        gates: ran.gates,
+        door,
+    }
+}
+
 /// A run that came to this without a realm.
 pub fn ended<G>(alloc: Global, status: u8, gates: List<G>) -> Finished<G>
     ensures status { result.status ≡ status }

@@ -5,12 +5,11 @@ ghost use Rattle.cm_io.specs.Doors.{IsShut};
 ghost use Rattle.cm_program.specs.Promise.{Promise};
 ghost use Rattle.cm_session.specs.Links.{view_of};
 
-use crate::audit::run_audit;
-use crate::check::run_check;
 use crate::generate::run_generated;
-use crate::ran::{Ran, out_of_memory, stopped, tell};
+use crate::ran::{Ran, out_of_memory, stopped, tell, without_links};
 use crate::scripts::run_script;
 use crate::serving::run_sessions;
+use crate::verdict::{Subject, run_verdict};
 use cm_call::{Call, Wanted, WordsFault, read_words};
 use cm_gate::Gates;
 use cm_io::{Door, Sink, Source};
@@ -90,27 +89,21 @@ where
             let wanted = options.wanted;
             let folder = options.repository;
             let ran = run_script(rt, alloc, wanted, folder, input, out, err, gates);
-            Ran {
-                status: ran.status,
-                book: ran.book,
-                links: List::new(alloc),
-                gates: ran.gates,
-                door,
-            }
+            without_links(alloc, ran, door)
         }
-        Ok(Call::Check) => stopped(alloc, run_check(rt, alloc, input, out, err), gates, door),
-        Ok(Call::Audit) => stopped(alloc, run_audit(rt, alloc, input, out, err), gates, door),
+        Ok(Call::Check) => {
+            let status = run_verdict(rt, alloc, Subject::Manifest, input, out, err);
+            stopped(alloc, status, gates, door)
+        }
+        Ok(Call::Audit) => {
+            let status = run_verdict(rt, alloc, Subject::Journal, input, out, err);
+            stopped(alloc, status, gates, door)
+        }
         Ok(Call::Generate(workload)) => {
             let ran = run_generated(rt, alloc, workload, out, err, gates);
-            Ran {
-                status: ran.status,
-                book: ran.book,
-                links: List::new(alloc),
-                gates: ran.gates,
-                door,
-            }
+            without_links(alloc, ran, door)
         }
-        Ok(Call::Serve(options)) => run_sessions(rt, alloc, options, err, door, gates),
+        Ok(Call::Serve(options)) => run_sessions(rt, alloc, options, door, gates, err),
         Err(WordsFault::Usage) => {
             tell(
                 rt,

@@ -231,20 +231,16 @@ pub fn run_served<R: Threads + Wait + Sync, K: Sink, E: Sink, G: Gates + Send + 
     ensures err { SaysOnErr E.written E.faults err.old err.new result.status }
     ensures others { IsScriptRun result.status }
 {
-    let LoadedScript {
-        repository,
-        frame,
-        phases,
-    } = served;
-    let Ok((head, realm)) = new_realm(alloc, frame) else {
+    let Ok((head, realm)) = new_realm(alloc, served.frame) else {
         return ended(alloc, out_of_memory(rt, err), gates);
     };
+    let phases = served.phases;
     let done = perform(
         rt,
         alloc,
         wanted,
         realm,
-        repository,
+        served.repository,
         repo,
         phases.as_slice(),
         gates,

@@ -17,6 +17,7 @@ use crate::fault::ScriptRefusal;
 use crate::ran::{Finished, ended, out_of_memory, read_fault, tell};
 use crate::running::run_served;
 use crate::stock::{LoadedScript, serve};
+use crate::verdict::line_of;
 use cm_call::Wanted;
 use cm_gate::Gates;
 use cm_io::{Sink, Source, SourceFault, read_up_to};
@@ -86,15 +87,6 @@ fn read_served<R: Threads + Wait + Sync, S: Source>(
     }
 }
 
-/// The line on the error stream that says why a script is refused.
-fn fault_line(alloc: Global, fault: ScriptRefusal) -> Result<Text, Memory>
-    ensures { IfOk result (λ text. text ≡ spec.fault_line fault) }
-{
-    let mut text = Text::new(alloc);
-    text.push(format_args!("{fault}\n"))?;
-    Ok(text)
-}
-
 /// Says why the script is refused. The result is the status.
 #[tactic(auto, using(crate::proofs::whole::Saying::says))]
 fn refuse<R: Threads + Wait + Sync, E: Sink>(
@@ -108,7 +100,7 @@ fn refuse<R: Threads + Wait + Sync, E: Sink>(
     ensures err { SaysOnErr E.written E.faults err.old err.new result }
     ensures others { (result ≡ 7) ⊎ (result ≡ 6) }
 {
-    match fault_line(alloc, fault) {
+    match line_of(alloc, &fault) {
         Ok(text) => {
             tell(rt, err, text.as_str().as_bytes());
             7

@@ -1,6 +1,6 @@
 //! The command `serve`: sessions over the links of a door.
 
-ghost use Rattle.std.specs.Prelude.{◌≡◌, [], IfOk, length};
+ghost use Rattle.std.specs.Prelude.{◌≡◌, length};
 ghost use Rattle.cm_call.specs.CallsInside.{IsServing};
 ghost use Rattle.cm_io.specs.Doors.{IsOpenAt, IsShut};
 ghost use Rattle.cm_program.specs.Headline.{IsHistory};
@@ -9,41 +9,14 @@ ghost use Rattle.cm_program.specs.Written.{SaysOnErr};
 ghost use Rattle.cm_session.specs.Links.{view_of};
 
 use crate::ran::{Ran, door_fault, out_of_memory, stopped};
-use crate::sessions::{Service, attend};
-use crate::stock::LIMITS;
+use crate::sessions::{attend, manager_of};
 use cm_call::ServeOptions;
 use cm_gate::Gates;
 use cm_io::{Door, Listen, Sink};
-use cm_names::{List, Memory, Text};
-use cm_steps::Realm;
+use cm_names::List;
 use std::alloc::Global;
 use std::sync::Wait;
 use std::thread::Threads;
-
-/// Where links come, and what they are served over.
-fn service_of(alloc: Global, options: ServeOptions) -> Result<(Text, Service), Memory>
-    ensures { IfOk result (λ made. (made.0 ≡ options.socket)
-        × (made.1.realm ≡ record { frame = served_frame options; entries = [] })
-        × (made.1.folder ≡ options.repository)
-        × (made.1.sessions ≡ options.sessions)
-        × (made.1.workers ≡ options.workers)) }
-{
-    let ServeOptions {
-        socket,
-        root,
-        repository,
-        sessions,
-        workers,
-    } = options;
-    let realm = Realm::new(alloc, root, List::new(alloc), LIMITS)?;
-    let service = Service {
-        realm,
-        folder: repository,
-        sessions,
-        workers,
-    };
-    Ok((socket, service))
-}
 
 /// Lets links come at a door, to which none may come yet, and serves each by a session over one new
 /// realm.
@@ -52,9 +25,9 @@ pub fn run_sessions<R: Threads + Wait + Sync, E: Sink, D: Door + Send, G: Gates 
     rt: &R,
     alloc: Global,
     options: ServeOptions,
-    err: &mut E,
     door: D,
     gates: List<G>,
+    err: &mut E,
 ) -> Ran<D, D::Link, G>
 where
     D::Link: Send,
@@ -68,14 +41,18 @@ where
     ensures history { IsHistory result.book.entries }
     ensures err { SaysOnErr E.written E.faults err.old err.new result.status }
 {
-    let Ok((socket, service)) = service_of(alloc, options) else {
+    let Ok((manager, passes)) = manager_of(alloc, options.root, options.repository) else {
         return stopped(alloc, out_of_memory(rt, err), gates, door);
     };
+    let (sessions, workers) = (options.sessions, options.workers);
     let mut door = door;
-    match door.listen(rt, socket.as_str()) {
-        Listen::Ready => attend(rt, alloc, service, err, door, gates),
+    match door.listen(rt, options.socket.as_str()) {
+        Listen::Ready => attend(
+            rt, alloc, manager, passes, err, door, gates, sessions, workers,
+        ),
         Listen::Failed => {
-            drop(service);
+            drop(passes);
+            drop(manager);
             stopped(alloc, door_fault(rt, err), gates, door)
         }
     }

@@ -1,19 +1,20 @@
 //! The sessions of a run, over one realm.
 
-ghost use Rattle.std.specs.Prelude.{◌≡◌, ◌<◌, ◌≤◌, [], Some, length};
+ghost use Rattle.std.specs.Prelude.{◌≡◌, ◌<◌, ◌≤◌, [], IfOk, Some, length};
 ghost use Rattle.cm_io.specs.Doors.{IsOpen};
 ghost use Rattle.cm_world.specs.declared.frame.Frame.{Frame as TheFrame};
 ghost use Rattle.cm_turn.specs.Passes.{new_passes};
-ghost use Rattle.cm_manager.specs.Work.{Manifests};
 ghost use Rattle.cm_program.specs.Sessions.{Attended, status_of};
+ghost use Rattle.cm_program.specs.Stock.{limits};
 ghost use Rattle.cm_program.specs.Written.{SaysOnErr};
 ghost use Rattle.cm_session.specs.Links.{view_of};
 
-use crate::ran::{Ran, door_fault, out_of_memory, stopped};
+use crate::ran::{Ran, door_fault, out_of_memory};
+use crate::stock::LIMITS;
 use cm_gate::Gates;
 use cm_io::{Door, Sink};
 use cm_manager::Manager;
-use cm_names::{List, Text};
+use cm_names::{List, Memory, Text};
 use cm_repo::Repository;
 use cm_session::{Cause, Served, serve_sessions};
 use cm_steps::Realm;
@@ -23,17 +24,28 @@ use std::alloc::Global;
 use std::sync::Wait;
 use std::thread::Threads;
 
-/// What sessions are served over, and how many.
-#[derive(Drop)]
-pub struct Service {
-    /// The realm, which is new.
-    pub realm: Realm,
-    /// The folder in which its manifests are looked for.
-    pub folder: Text,
-    /// How many links are served in all.
-    pub sessions: u32,
-    /// How many of them are served at once.
-    pub workers: u32,
+/// A manager over a new realm of this root, whose manifests are looked for in that folder, and the
+/// passes of sixteen callers.
+pub fn manager_of(
+    alloc: Global,
+    root: Text,
+    folder: Text,
+) -> Result<(Manager, List<Pass<Entry, Frame>>), Memory>
+    ensures count { IfOk result (λ made. made.0.turn.passes ≡ 16) }
+    ensures new { IfOk result (λ made. let frame : TheFrame =
+        record { root = root; builtins = []; limits = limits } in
+        made.1 ≡ new_passes made.0.turn.lock frame 16) }
+    ensures manifests { IfOk result (λ made.
+        made.0.manifests ≡ record { repo = Some folder; blocks = [] }) }
+{
+    let realm = Realm::new(alloc, root, List::new(alloc), LIMITS)?;
+    match Manager::new(alloc, realm, Repository::new(alloc), Some(folder), 16) {
+        Ok(made) => Ok(made),
+        Err(realm) => {
+            drop(realm);
+            Err(Memory)
+        }
+    }
 }
 
 /// Says why no more links came, where that is a fault. The result is the status.
@@ -52,7 +64,7 @@ fn tell_cause<R: Threads + Wait + Sync, E: Sink>(rt: &R, err: &mut E, cause: Cau
 /// Serves the links of a door under a manager, closes it, and says why no more came. Peers may come to
 /// the door.
 #[tactic(auto, using(crate::proofs::whole::Saying::says))]
-fn attend_under<R: Threads + Wait + Sync, E: Sink, D: Door + Send, G: Gates + Send + Drop>(
+pub fn attend<R: Threads + Wait + Sync, E: Sink, D: Door + Send, G: Gates + Send + Drop>(
     rt: &R,
     alloc: Global,
     manager: Manager,
@@ -92,46 +104,5 @@ where
         links,
         gates,
         door,
-    }
-}
-
-/// Serves the links that come at a door, over this realm, with these gates, and says why no more
-/// came. Peers may come to the door.
-#[tactic(auto, using(crate::proofs::whole::Saying::says))]
-pub fn attend<R: Threads + Wait + Sync, E: Sink, D: Door + Send, G: Gates + Send + Drop>(
-    rt: &R,
-    alloc: Global,
-    service: Service,
-    err: &mut E,
-    door: D,
-    gates: List<G>,
-) -> Ran<D, D::Link, G>
-where
-    D::Link: Send,
-    requires empty { service.realm.entries ≡ [] }
-    requires gates { length gates ≡ 16 }
-    requires sessions { (0 < service.sessions) × (service.sessions ≤ 4096) }
-    requires workers { (0 < service.workers) × (service.workers ≤ 16) }
-    requires listening { IsOpen (D.place door) }
-    ensures attended { let manifests : Manifests = record { repo = Some service.folder; blocks = [] } in
-        Attended G.log G.faults (view_of D.Link.Source D.Link.Sink) D.counts
-        service.realm.frame manifests service.sessions service.workers gates (D.counts door) result }
-    ensures place { D.place result.door ≡ D.place door }
-    ensures err { SaysOnErr E.written E.faults err.old err.new result.status }
-{
-    let Service {
-        realm,
-        folder,
-        sessions,
-        workers,
-    } = service;
-    match Manager::new(alloc, realm, Repository::new(alloc), Some(folder), 16) {
-        Ok((manager, passes)) => attend_under(
-            rt, alloc, manager, passes, err, door, gates, sessions, workers,
-        ),
-        Err(realm) => {
-            drop(realm);
-            stopped(alloc, out_of_memory(rt, err), gates, door)
-        }
     }
 }

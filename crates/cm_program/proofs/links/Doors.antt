@@ -8,7 +8,6 @@ use Rattle.cm_io.specs.declared.door.DoorCounts.{DoorCounts}
 use Rattle.cm_call.specs.declared.call.ServeOptions.{ServeOptions}
 use Rattle.cm_world.specs.declared.frame.Frame.{Frame}
 use Rattle.cm_gate.specs.declared.asked.GateCall.{GateCall}
-use Rattle.cm_laws.specs.Story.{Story}
 use Rattle.cm_manager.specs.Work.{Manifests}
 use Rattle.cm_session.specs.declared.served.Cause.{Cause}
 use Rattle.cm_session.specs.declared.served.Cause.TheVariants as cause
@@ -17,7 +16,6 @@ use Rattle.cm_session.specs.Serving.{back_view}
 use Rattle.cm_program.specs.Run.{IsServeStatus}
 use Rattle.cm_program.specs.Sessions.{Attended, served_frame, served_manifests, status_of}
 use Rattle.cm_program.specs.declared.ran.Ran.{Ran}
-use Rattle.cm_program.specs.declared.sessions.Service.{Service}
 use Rattle.cm_program.proofs.Statuses.{few_given, none_given}
 use Rattle.cm_program.proofs.links.Attending.{runs_no_session}
 
@@ -95,13 +93,10 @@ module _ {D L G : Type 0} (log_of : G → Option (List GateCall)) (faults_of : G
 
   -- ---- what was asked for, and what it was made into
 
-  pub attended_by : (o : ServeOptions) (service : Service) (gates : List G) (before now : DoorCounts) (ran : Ran D L G)
-      → service.realm ≡ record { frame = served_frame o; entries = [] } → service.folder ≡ o.repository → service.sessions ≡ o.sessions → service.workers ≡ o.workers → now ≡ before
-      → IsSo service.realm.frame (record { repo = Some service.folder; blocks = [] }) service.sessions service.workers gates now ran
+  pub attended_by : (o : ServeOptions) (made : Manifests) (gates : List G) (before now : DoorCounts) (ran : Ran D L G)
+      → made ≡ served_manifests o → now ≡ before
+      → IsSo (served_frame o) made o.sessions o.workers gates now ran
       → IsSo (served_frame o) (served_manifests o) o.sessions o.workers gates before ran
-  attended_by o service gates before now ran realm folder sessions workers same is =
-      subst (λ (f : Frame). IsSo f (served_manifests o) o.sessions o.workers gates before ran) (ap (λ (s : Story). s.frame) realm)
-      (subst (λ (t : List ℕ). IsSo service.realm.frame (record { repo = Some t; blocks = [] }) o.sessions o.workers gates before ran) folder
-      (subst (λ (n : ℕ). IsSo service.realm.frame (record { repo = Some service.folder; blocks = [] }) n o.workers gates before ran) sessions
-      (subst (λ (n : ℕ). IsSo service.realm.frame (record { repo = Some service.folder; blocks = [] }) service.sessions n gates before ran) workers
-      (subst (λ (c : DoorCounts). IsSo service.realm.frame (record { repo = Some service.folder; blocks = [] }) service.sessions service.workers gates c ran) same is))))
+  attended_by o made gates before now ran manifests same is =
+      subst (λ (m : Manifests). IsSo (served_frame o) m o.sessions o.workers gates before ran) manifests
+      (subst (λ (c : DoorCounts). IsSo (served_frame o) made o.sessions o.workers gates c ran) same is)

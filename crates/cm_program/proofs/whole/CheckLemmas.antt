@@ -6,7 +6,7 @@ use Rattle.cm_decl.specs.Faults.{DeclFault}
 use Rattle.cm_decl.specs.declared.node.Node.{Node}
 use Rattle.cm_decl.specs.declared.section.Section.{Section}
 use Rattle.cm_names.specs.declared.memory.Memory.{Memory}
-use Rattle.cm_program.specs.declared.check.Verdict.{Verdict}
+use Rattle.cm_program.specs.declared.verdict.Verdict.{Verdict}
 use Rattle.cm_decl.specs.Valid.{IsValid, IsDeclFault}
 use Rattle.cm_read.specs.ReadingInside.{FailsReading}
 use Rattle.cm_read.specs.Texts as read_text

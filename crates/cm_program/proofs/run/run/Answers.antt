@@ -19,14 +19,16 @@ use Rattle.cm_session.specs.Links.{view_of}
 use Rattle.cm_session.specs.Serving.{back_view}
 use Rattle.cm_program.proofs.links.Attending.{runs_no_session}
 use Rattle.cm_program.proofs.whole.RunLemmas.{empty_history, known_nothing, of_faulty, own_nothing, some_unread}
+use Rattle.cm_program.proofs.whole.Handing.{handed_on}
 use Rattle.cm_program.proofs.whole.Saying.{says_usage, says_want}
-use Rattle.cm_program.proofs.Statuses.{at_six, at_told, but_told, check_idles, few_given, none_given, not_check, not_six, not_two, not_run, not_script, not_serve, run_isnt_idle, script_idles, serve_isnt_idle}
+use Rattle.cm_program.proofs.Statuses.{at_six, at_told, but_told, check_idles, few_given, none_more, not_check, not_six, not_two, not_run, not_script, not_serve, run_isnt_idle, script_idles, serve_isnt_idle}
 use Rattle.cm_program.proofs.Asking.{asked, is_audit, is_check, is_generate, is_run, is_serve, no_call, no_fault, no_other, same_options, same_serving, same_workload, unusable}
 use Rattle.cm_program.proofs.run.run.Goals as goal
 
 pub returns-in-Ok-Run : goal.returns-in-Ok-Run
 returns-in-Ok-Run g c =
-    record {
+    handed_on c.without_links.result _ c.without_links.ensures
+    (record {
       usage = not_script 2 c.run_script-ran.result.status refl c.run_script-ran.ensures.others;
       unusable = no_fault c.in-Ok-Run.ensures.gives c.in-Ok-Run.field-0-is;
       untouched = no_fault c.in-Ok-Run.ensures.gives c.in-Ok-Run.field-0-is;
@@ -47,8 +49,8 @@ returns-in-Ok-Run g c =
       empty = script_idles c.run_script-ran.result.status c.run_script-ran.ensures.others c.run_script-ran.ensures.empty;
       other = λ none. absurd (none (inl (inl (c.in-Ok-Run.options, asked c.in-Ok-Run.ensures.gives c.in-Ok-Run.field-0-is))));
       unserved = λ no_workload no_door. c.run_script-ran.ensures.unserved;
-      given = none_given (g.D.Door.counts c.args.door).links c.new.result c.new.ensures;
-      unopened = λ none. (c.new.ensures, refl);
+      given = none_more (g.D.Door.counts c.args.door).links;
+      unopened = λ none. (refl, refl);
       of_run = λ options asks. record {
         status = c.run_script-ran.ensures.others;
         refused = c.run_script-ran.ensures.refused;
@@ -66,11 +68,12 @@ returns-in-Ok-Run g c =
       of_audit = λ asks. no_other is_run c.in-Ok-Run.ensures.gives c.in-Ok-Run.field-0-is asks refl refl;
       of_generate = λ w asks. no_other is_run c.in-Ok-Run.ensures.gives c.in-Ok-Run.field-0-is asks refl refl;
       of_serve = λ o asks. no_other is_run c.in-Ok-Run.ensures.gives c.in-Ok-Run.field-0-is asks refl refl;
-    }
+    })
 
 pub returns-in-Ok-Generate : goal.returns-in-Ok-Generate
 returns-in-Ok-Generate g c =
-    record {
+    handed_on c.without_links-in-Ok-Generate.result _ c.without_links-in-Ok-Generate.ensures
+    (record {
       usage = not_run 2 c.run_generated-ran.result.status refl c.run_generated-ran.ensures.others;
       unusable = no_fault c.in-Ok-Generate.ensures.gives c.in-Ok-Generate.field-0-is;
       untouched = no_fault c.in-Ok-Generate.ensures.gives c.in-Ok-Generate.field-0-is;
@@ -91,8 +94,8 @@ returns-in-Ok-Generate g c =
       empty = run_isnt_idle c.run_generated-ran.result.status c.run_generated-ran.ensures.others;
       other = λ none. absurd (none (inl (inr (c.in-Ok-Generate.workload, asked c.in-Ok-Generate.ensures.gives c.in-Ok-Generate.field-0-is))));
       unserved = λ no_workload. absurd (no_workload (c.in-Ok-Generate.workload, asked c.in-Ok-Generate.ensures.gives c.in-Ok-Generate.field-0-is));
-      given = none_given (g.D.Door.counts c.args.door).links c.new-in-Ok-Generate.result c.new-in-Ok-Generate.ensures;
-      unopened = λ none. (c.new-in-Ok-Generate.ensures, refl);
+      given = none_more (g.D.Door.counts c.args.door).links;
+      unopened = λ none. (refl, refl);
       of_run = λ options asks. no_other is_generate c.in-Ok-Generate.ensures.gives c.in-Ok-Generate.field-0-is asks refl refl;
       of_check = λ asks. no_other is_generate c.in-Ok-Generate.ensures.gives c.in-Ok-Generate.field-0-is asks refl refl;
       of_audit = λ asks. no_other is_generate c.in-Ok-Generate.ensures.gives c.in-Ok-Generate.field-0-is asks refl refl;
@@ -106,7 +109,7 @@ returns-in-Ok-Generate g c =
         unread = refl;
       };
       of_serve = λ o asks. no_other is_generate c.in-Ok-Generate.ensures.gives c.in-Ok-Generate.field-0-is asks refl refl;
-    }
+    })
 
 pub returns-in-Ok-Serve : goal.returns-in-Ok-Serve
 returns-in-Ok-Serve g c =
@@ -259,21 +262,21 @@ returns-in-Err-Usage g c =
 pub returns-in-Ok-Check : goal.returns-in-Ok-Check
 returns-in-Ok-Check g c =
     record {
-      usage = not_check 2 refl c.stopped.ensures.status c.run_check.ensures.others;
+      usage = not_check 2 refl c.stopped.ensures.status c.run_verdict-status.ensures.others;
       unusable = no_fault c.in-Ok-Check.ensures.gives c.in-Ok-Check.field-0-is;
       untouched = no_fault c.in-Ok-Check.ensures.gives c.in-Ok-Check.field-0-is;
       unread = λ none. absurd (none (inr (inl (asked c.in-Ok-Check.ensures.gives c.in-Ok-Check.field-0-is))));
       unwritten = λ none. absurd (none (inl (inr (inl (asked c.in-Ok-Check.ensures.gives c.in-Ok-Check.field-0-is)))));
-      read = at_told c.stopped.ensures.status c.run_check.ensures.read;
-      write = at_told c.stopped.ensures.status c.run_check.ensures.write;
-      door = not_check 5 refl c.stopped.ensures.status c.run_check.ensures.others;
+      read = at_told c.stopped.ensures.status c.run_verdict-status.ensures.read;
+      write = at_told c.stopped.ensures.status c.run_verdict-status.ensures.write;
+      door = not_check 5 refl c.stopped.ensures.status c.run_verdict-status.ensures.others;
       sound = λ none. ap (λ d. (g.D.Door.counts d).faults) c.stopped.ensures.door;
-      heard = but_told c.stopped.ensures.status c.run_check.ensures.heard;
-      whole = but_told c.stopped.ensures.status c.run_check.ensures.whole;
-      quiet = c.run_check.ensures.quiet;
-      silent = check_idles c.stopped.ensures.status c.run_check.ensures.others c.run_check.ensures.silent;
-      kept = λ none six. c.run_check.ensures.silent (inr (sym c.stopped.ensures.status ∙ six));
-      err = subst (λ (s : ℕ). SaysOnErr g.E.Sink.written g.E.Sink.faults c.args.err.now c.run_check.new.err s) (sym c.stopped.ensures.status) c.run_check.ensures.err;
+      heard = but_told c.stopped.ensures.status c.run_verdict-status.ensures.heard;
+      whole = but_told c.stopped.ensures.status c.run_verdict-status.ensures.whole;
+      quiet = c.run_verdict-status.ensures.quiet;
+      silent = check_idles c.stopped.ensures.status c.run_verdict-status.ensures.others c.run_verdict-status.ensures.silent;
+      kept = λ none six. c.run_verdict-status.ensures.silent (inr (sym c.stopped.ensures.status ∙ six));
+      err = subst (λ (s : ℕ). SaysOnErr g.E.Sink.written g.E.Sink.faults c.args.err.now c.run_verdict-status.new.err s) (sym c.stopped.ensures.status) c.run_verdict-status.ensures.err;
       history = empty_history c.stopped.result.book.entries c.stopped.ensures.empty;
       gates = ap length c.stopped.ensures.gates ∙ c.requires.gates;
       empty = λ idle. (c.stopped.ensures.empty, c.stopped.ensures.gates);
@@ -283,11 +286,11 @@ returns-in-Ok-Check g c =
       unopened = λ none. (c.stopped.ensures.links, c.stopped.ensures.door);
       of_run = λ options asks. no_other is_check c.in-Ok-Check.ensures.gives c.in-Ok-Check.field-0-is asks refl refl;
       of_check = λ asks. record {
-        status = subst IsCheckStatus (sym c.stopped.ensures.status) c.run_check.ensures.others;
-        read_out = at_told c.stopped.ensures.status c.run_check.ensures.ended;
-        valid = at_told c.stopped.ensures.status c.run_check.ensures.valid;
-        invalid = at_told c.stopped.ensures.status c.run_check.ensures.invalid;
-        told = at_told c.stopped.ensures.status c.run_check.ensures.prefix;
+        status = subst IsCheckStatus (sym c.stopped.ensures.status) c.run_verdict-status.ensures.others;
+        read_out = at_told c.stopped.ensures.status c.run_verdict-status.ensures.ended;
+        valid = at_told c.stopped.ensures.status c.run_verdict-status.ensures.good;
+        invalid = at_told c.stopped.ensures.status c.run_verdict-status.ensures.bad;
+        told = at_told c.stopped.ensures.status c.run_verdict-status.ensures.prefix;
       };
       of_audit = λ asks. no_other is_check c.in-Ok-Check.ensures.gives c.in-Ok-Check.field-0-is asks refl refl;
       of_generate = λ w asks. no_other is_check c.in-Ok-Check.ensures.gives c.in-Ok-Check.field-0-is asks refl refl;
@@ -297,21 +300,21 @@ returns-in-Ok-Check g c =
 pub returns-in-Ok-Audit : goal.returns-in-Ok-Audit
 returns-in-Ok-Audit g c =
     record {
-      usage = not_check 2 refl c.stopped-in-Ok-Audit.ensures.status c.run_audit.ensures.others;
+      usage = not_check 2 refl c.stopped-in-Ok-Audit.ensures.status c.run_verdict-status-in-Ok-Audit.ensures.others;
       unusable = no_fault c.in-Ok-Audit.ensures.gives c.in-Ok-Audit.field-0-is;
       untouched = no_fault c.in-Ok-Audit.ensures.gives c.in-Ok-Audit.field-0-is;
       unread = λ none. absurd (none (inr (inr (asked c.in-Ok-Audit.ensures.gives c.in-Ok-Audit.field-0-is))));
       unwritten = λ none. absurd (none (inl (inr (inr (asked c.in-Ok-Audit.ensures.gives c.in-Ok-Audit.field-0-is)))));
-      read = at_told c.stopped-in-Ok-Audit.ensures.status c.run_audit.ensures.read;
-      write = at_told c.stopped-in-Ok-Audit.ensures.status c.run_audit.ensures.write;
-      door = not_check 5 refl c.stopped-in-Ok-Audit.ensures.status c.run_audit.ensures.others;
+      read = at_told c.stopped-in-Ok-Audit.ensures.status c.run_verdict-status-in-Ok-Audit.ensures.read;
+      write = at_told c.stopped-in-Ok-Audit.ensures.status c.run_verdict-status-in-Ok-Audit.ensures.write;
+      door = not_check 5 refl c.stopped-in-Ok-Audit.ensures.status c.run_verdict-status-in-Ok-Audit.ensures.others;
       sound = λ none. ap (λ d. (g.D.Door.counts d).faults) c.stopped-in-Ok-Audit.ensures.door;
-      heard = but_told c.stopped-in-Ok-Audit.ensures.status c.run_audit.ensures.heard;
-      whole = but_told c.stopped-in-Ok-Audit.ensures.status c.run_audit.ensures.whole;
-      quiet = c.run_audit.ensures.quiet;
-      silent = check_idles c.stopped-in-Ok-Audit.ensures.status c.run_audit.ensures.others c.run_audit.ensures.silent;
-      kept = λ none six. c.run_audit.ensures.silent (inr (sym c.stopped-in-Ok-Audit.ensures.status ∙ six));
-      err = subst (λ (s : ℕ). SaysOnErr g.E.Sink.written g.E.Sink.faults c.args.err.now c.run_audit.new.err s) (sym c.stopped-in-Ok-Audit.ensures.status) c.run_audit.ensures.err;
+      heard = but_told c.stopped-in-Ok-Audit.ensures.status c.run_verdict-status-in-Ok-Audit.ensures.heard;
+      whole = but_told c.stopped-in-Ok-Audit.ensures.status c.run_verdict-status-in-Ok-Audit.ensures.whole;
+      quiet = c.run_verdict-status-in-Ok-Audit.ensures.quiet;
+      silent = check_idles c.stopped-in-Ok-Audit.ensures.status c.run_verdict-status-in-Ok-Audit.ensures.others c.run_verdict-status-in-Ok-Audit.ensures.silent;
+      kept = λ none six. c.run_verdict-status-in-Ok-Audit.ensures.silent (inr (sym c.stopped-in-Ok-Audit.ensures.status ∙ six));
+      err = subst (λ (s : ℕ). SaysOnErr g.E.Sink.written g.E.Sink.faults c.args.err.now c.run_verdict-status-in-Ok-Audit.new.err s) (sym c.stopped-in-Ok-Audit.ensures.status) c.run_verdict-status-in-Ok-Audit.ensures.err;
       history = empty_history c.stopped-in-Ok-Audit.result.book.entries c.stopped-in-Ok-Audit.ensures.empty;
       gates = ap length c.stopped-in-Ok-Audit.ensures.gates ∙ c.requires.gates;
       empty = λ idle. (c.stopped-in-Ok-Audit.ensures.empty, c.stopped-in-Ok-Audit.ensures.gates);
@@ -322,11 +325,11 @@ returns-in-Ok-Audit g c =
       of_run = λ options asks. no_other is_audit c.in-Ok-Audit.ensures.gives c.in-Ok-Audit.field-0-is asks refl refl;
       of_check = λ asks. no_other is_audit c.in-Ok-Audit.ensures.gives c.in-Ok-Audit.field-0-is asks refl refl;
       of_audit = λ asks. record {
-        status = subst IsCheckStatus (sym c.stopped-in-Ok-Audit.ensures.status) c.run_audit.ensures.others;
-        read_out = at_told c.stopped-in-Ok-Audit.ensures.status c.run_audit.ensures.ended;
-        legal = at_told c.stopped-in-Ok-Audit.ensures.status c.run_audit.ensures.legal;
-        illegal = at_told c.stopped-in-Ok-Audit.ensures.status c.run_audit.ensures.illegal;
-        told = at_told c.stopped-in-Ok-Audit.ensures.status c.run_audit.ensures.prefix;
+        status = subst IsCheckStatus (sym c.stopped-in-Ok-Audit.ensures.status) c.run_verdict-status-in-Ok-Audit.ensures.others;
+        read_out = at_told c.stopped-in-Ok-Audit.ensures.status c.run_verdict-status-in-Ok-Audit.ensures.ended;
+        legal = at_told c.stopped-in-Ok-Audit.ensures.status c.run_verdict-status-in-Ok-Audit.ensures.good;
+        illegal = at_told c.stopped-in-Ok-Audit.ensures.status c.run_verdict-status-in-Ok-Audit.ensures.bad;
+        told = at_told c.stopped-in-Ok-Audit.ensures.status c.run_verdict-status-in-Ok-Audit.ensures.prefix;
       };
       of_generate = λ w asks. no_other is_audit c.in-Ok-Audit.ensures.gives c.in-Ok-Audit.field-0-is asks refl refl;
       of_serve = λ o asks. no_other is_audit c.in-Ok-Audit.ensures.gives c.in-Ok-Audit.field-0-is asks refl refl;

@@ -1,4 +1,4 @@
-use Rattle.std.proofs.Common.{◌≡◌, ◌∙◌}
+use Rattle.std.proofs.Common.{◌∙◌}
 use Rattle.cm_session.specs.Links.{view_of}
 use Rattle.cm_session.specs.Serving.{back_view}
 use Rattle.cm_program.specs.Sessions.{served_frame, served_manifests}
@@ -14,8 +14,8 @@ returns-in_default-clause-attended g c =
 pub returns-in-Ready-clause-attended : goal.returns-in-Ready-clause-attended
 returns-in-Ready-clause-attended g c =
     attended_by g.G.Gates.log g.G.Gates.faults (view_of g.D.Link.Source g.D.Link.Sink) g.D.Door.counts
-    c.args.options c.in-Ok.service c.args.gates (g.D.Door.counts c.args.door) (g.D.Door.counts c.listen.new.self) c.attend.result
-    c.in-Ok.ensures.1 c.in-Ok.ensures.2 c.in-Ok.ensures.3 c.in-Ok.ensures.4 c.in-Ready.ensures.counts c.attend.ensures.attended
+    c.args.options c.in-Ok.manager.manifests c.args.gates (g.D.Door.counts c.args.door) (g.D.Door.counts c.listen.new.self) c.attend.result
+    c.in-Ok.ensures.manifests c.in-Ready.ensures.counts (c.attend.ensures.attended (served_frame c.args.options) c.in-Ok.ensures.new)
 
 pub returns-clause-attended : goal.returns-clause-attended
 returns-clause-attended g c =
@@ -32,8 +32,12 @@ returns-in_default-clause-place g c = λ is. failed_run 5 c.stopped.ensures.stat
 
 pub returns-in-Ready-clause-place : goal.returns-in-Ready-clause-place
 returns-in-Ready-clause-place g c =
-    let named : c.as_str.result.now ≡ c.args.options.socket = c.as_str.ensures ∙ c.in-Ok.ensures.0 in
-    λ is. at_same _ _ _ _ named c.attend.ensures.place c.in-Ready.ensures.place
+    λ is. at_same _ _ _ _ c.as_str.ensures c.attend.ensures.place c.in-Ready.ensures.place
 
 pub returns-clause-place : goal.returns-clause-place
 returns-clause-place g c = λ is. failed_run 4 c.stopped-in-Failed.ensures.status c.door_fault.ensures.status is
+
+pub returns-in-Ready-clause-history : goal.returns-in-Ready-clause-history
+returns-in-Ready-clause-history g c =
+    let came = c.attend.ensures.attended (served_frame c.args.options) c.in-Ok.ensures.new in
+    record { frame = served_frame c.args.options; legal = came.runs.legal; laws = came.runs.laws }

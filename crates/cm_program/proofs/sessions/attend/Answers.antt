@@ -1,22 +1,43 @@
-use Rattle.std.proofs.Common.{◌≡◌, Some, [], ap, ◌∙◌, subst}
-use Rattle.cm_repo.specs.Blocks.{Blocks}
-use Rattle.cm_manager.specs.Work.{Manifests}
+use Rattle.std.proofs.Common.{ℕ, map, sym, subst, ◌∙◌}
 use Rattle.cm_session.specs.Links.{view_of}
-use Rattle.cm_program.specs.Sessions.{Attended}
-use Rattle.cm_program.proofs.links.Doors.{unattended_for_want}
+use Rattle.cm_session.specs.Serving.{back_view}
+use Rattle.cm_program.specs.Run.{IsServeStatus}
+use Rattle.cm_program.specs.Sessions.{RunsSessions}
+use Rattle.cm_program.proofs.links.Attending.{attended, ended_passes, own_passes}
+use Rattle.cm_program.proofs.links.Doors.{is_done, is_fault, serves}
+use Rattle.cm_program.proofs.lanes.Sixteen.{sixteen_all, sixteen_new}
 use Rattle.cm_program.proofs.sessions.attend.Goals as goal
 
--- the manager's manifests is the folder, with no blocks
-pub returns-in-Ok-clause-attended : goal.returns-in-Ok-clause-attended
-returns-in-Ok-clause-attended g c =
-    let manifests : Manifests = record { repo = Some c.args.service.folder; blocks = [] } in
-    let same : c.in-Ok.manager.manifests ≡ manifests = c.in-Ok.ensures.manifests ∙ ap (λ (b : Blocks). record { repo = Some c.args.service.folder; blocks = b }) c.new.ensures in
-    subst (λ (s : Manifests). Attended g.G.Gates.log g.G.Gates.faults (view_of g.D.Link.Source g.D.Link.Sink) g.D.Door.counts
-    c.args.service.realm.frame s c.args.service.sessions c.args.service.workers c.args.gates (g.D.Door.counts c.args.door) c.attend_under.result)
-    same (c.attend_under.ensures.attended c.args.service.realm.frame c.in-Ok.ensures.new)
+pub serve_sessions-passes-requires-clause-passes : goal.serve_sessions-passes-requires-clause-passes
+serve_sessions-passes-requires-clause-passes g c κs within = sixteen_new c.args.manager.turn c.requires.new.0 c.args.passes c.requires.new.1
 
-pub returns-in-Err-clause-attended : goal.returns-in-Err-clause-attended
-returns-in-Err-clause-attended g c =
-    unattended_for_want g.G.Gates.log g.G.Gates.faults (view_of g.D.Link.Source g.D.Link.Sink) g.D.Door.counts
-    c.args.service.realm.frame (record { repo = Some c.args.service.folder; blocks = [] }) c.args.service.sessions c.args.service.workers c.args.gates c.args.door c.stopped.result
-    c.requires.gates c.stopped.ensures.empty c.stopped.ensures.gates c.stopped.ensures.links c.stopped.ensures.door (c.stopped.ensures.status ∙ c.out_of_memory.ensures.status)
+pub close-book-requires-clause-passes : goal.close-book-requires-clause-passes
+close-book-requires-clause-passes g c =
+    sixteen_all c.args.manager.turn c.serve_sessions-passes.result.passes c.requires.count c.serve_sessions-passes.ensures.passes
+
+pub close-book-requires-clause-ended : goal.close-book-requires-clause-ended
+close-book-requires-clause-ended g c =
+    c.serve_sessions-passes.ensures.ended (ended_passes c.args.manager.turn c.requires.new.0 c.args.passes c.requires.new.1)
+
+pub returns-clause-attended : goal.returns-clause-attended
+returns-clause-attended g c f new =
+    let back = c.serve_sessions-passes in
+    let told = c.tell_cause-status.ensures.status in
+    record {
+      sixteen = back.ensures.gates;
+      runs =
+          subst (λ (status : ℕ). RunsSessions g.G.Gates.log g.G.Gates.faults (view_of g.D.Link.Source g.D.Link.Sink)
+          f c.args.manager.manifests c.args.workers c.args.gates back.result.gates c.close-book.result.entries
+          (map (back_view (view_of g.D.Link.Source g.D.Link.Sink)) back.result.links) status)
+          (sym told)
+          (attended g.G.Gates.log g.G.Gates.faults (view_of g.D.Link.Source g.D.Link.Sink)
+          c.args.manager.manifests c.args.manager.turn f c.args.workers c.args.passes c.args.gates back.result c.close-book.result.entries
+          new c.requires.gates back.ensures.passes (back.ensures.kept (own_passes c.args.manager.turn f c.args.passes new)) c.close-book.ensures.closes c.close-book.ensures.ended
+          c.args.door back.ensures.served);
+      given = back.ensures.links;
+      few = back.ensures.few;
+      done = λ is. back.ensures.done (is_done back.result.cause (sym told ∙ is));
+      sound = λ is. back.ensures.sound (is_done back.result.cause (sym told ∙ is));
+      failed = λ is. back.ensures.fault (is_fault back.result.cause (sym told ∙ is));
+      others = subst IsServeStatus (sym told) (serves back.result.cause);
+    }
