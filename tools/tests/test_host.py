@@ -687,6 +687,37 @@ class Watched(InFolder):
         self.assertEqual(called, ["first"])
 
 
+class Looked(unittest.TestCase):
+    def test_looks(self) -> None:
+        """Behind something that came the loop looks again for a moment; then it waits, and looks no more"""
+        selector, came = watching.Selector(), [(7, watching.READS)]
+        selector.close()
+        for case, answers, waits in (
+                ("nothing had come", [[]], [5.0]),
+                ("something comes while it waits", [came], [5.0]),
+                ("the next comes within the moment", [[], [], came], [0, 0, 0]),
+                ("nothing more comes within the moment, nor later", [[], []], [0, 5.0]),
+                ("so it waits at once", [came], [5.0])):
+            clock = iter(range(9)) if waits[-1] and len(waits) > 1 else iter([0.0] * 9)
+            asked = Mock(side_effect=answers)
+            selector.epoll = Mock(poll=asked)
+            with self.subTest(case), patch.object(watching.time, "monotonic", lambda: next(clock) * 0.00006):
+                self.assertEqual(selector._come(5.0), answers[-1])
+                self.assertEqual([one.args[0] for one in asked.call_args_list], waits)
+
+    def test_is_due(self) -> None:
+        """What is due within the moment is waited for as long as that takes"""
+        selector = watching.Selector()
+        selector.close()
+        selector.has_come = True
+        for wait in (0.0, watching.A_MOMENT):
+            asked = Mock(return_value=[])
+            selector.epoll, selector.has_come = Mock(poll=asked), True
+            with self.subTest(wait=wait):
+                self.assertEqual(selector._come(wait), [])
+                asked.assert_called_once_with(wait, watching.MOST)
+
+
 class Kept(Carried):
     """A connection that is carried, and how it ended."""
 
