@@ -17,6 +17,8 @@ import re
 import sys
 import textwrap
 
+from telling import told
+
 TOP = pathlib.Path(__file__).resolve().parent.parent
 CRATES = TOP / "crates"
 PAGE = TOP / "docs" / "ASSUMPTIONS.md"
@@ -190,11 +192,8 @@ def main(words):
             PAGE.write_text(anew, encoding="utf-8")
         elif anew != page:
             wrong.append("docs/ASSUMPTIONS.md is old: run .ci/assumptions.py --write")
-    for it in wrong:
-        print(f"assumptions: {it}")
-    if not wrong:
-        print(f"assumptions: ok, {sum(len(it) for it in made.values())} entries are those of the sources")
-    return 1 if wrong else 0
+    entries = sum(len(it) for it in made.values())
+    return told("assumptions", wrong, f"ok, {entries} entries are those of the sources")
 
 
 if __name__ == "__main__":

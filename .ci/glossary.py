@@ -13,6 +13,8 @@ import pathlib
 import re
 import sys
 
+from telling import told
+
 TOP = pathlib.Path(__file__).resolve().parent.parent
 PAGE = "docs/GLOSSARY.md"
 # How many entries there are at least, so that an empty page doesn't pass.
@@ -72,11 +74,8 @@ def main():
     wrong += misplaced([word for word, _ in found])
     if len(found) < LEAST:
         wrong.append(f"there are {len(found)} words, and {LEAST} are wanted")
-    for it in wrong:
-        print(f"glossary: {PAGE}: {it}")
-    if not wrong:
-        print(f"glossary: ok, {len(found)} words, which {len(known)} crates carry")
-    return 1 if wrong else 0
+    wrong = [f"{PAGE}: {it}" for it in wrong]
+    return told("glossary", wrong, f"ok, {len(found)} words, which {len(known)} crates carry")
 
 
 if __name__ == "__main__":

@@ -94,11 +94,9 @@ def main() -> int:
     sys.path.insert(0, str(TOP / "tools"))
     from cm_tools.console import Unusable
     from cm_tools.host.front import check_sandbox
-    from tests.hosting.user import as_another_user, reason_to_skip
+    from tests.hosting.user import as_another_user, can_host
 
-    why = reason_to_skip()
-    if why:
-        print(f"skipped: a host can't run here, since {why}")
+    if not can_host():
         return 0
     if os.getuid() == 0:
         try:

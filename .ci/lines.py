@@ -16,6 +16,8 @@ import re
 import subprocess
 import sys
 
+from telling import told
+
 TOP = pathlib.Path(__file__).resolve().parent.parent
 WIDTH = 110
 # These are split, so that this file isn't found itself.
@@ -75,11 +77,7 @@ def faults_of(name):
 def main():
     names = files()
     wrong = [fault for name in names for fault in faults_of(name)]
-    for it in wrong:
-        print(f"lines: {it}")
-    if not wrong:
-        print(f"lines: ok, {len(names)} files")
-    return 1 if wrong else 0
+    return told("lines", wrong, f"ok, {len(names)} files")
 
 
 if __name__ == "__main__":

@@ -16,6 +16,7 @@ import sys
 
 import house
 import lines
+from telling import told
 
 TOP = pathlib.Path(__file__).resolve().parent.parent
 # Words as parts of identifiers and in prose, each with what is said now.
@@ -91,11 +92,7 @@ def main():
     for name in files():
         count += 1
         wrong += old_words(name)
-    for it in wrong:
-        print(f"names: {it}")
-    if not wrong:
-        print(f"names: {count} files, and no name or word is wrong")
-    sys.exit(1 if wrong else 0)
+    sys.exit(told("names", wrong, f"{count} files, and no name or word is wrong"))
 
 
 if __name__ == "__main__":

@@ -16,6 +16,8 @@ import re
 import subprocess
 import sys
 
+from telling import told
+
 TOP = pathlib.Path(__file__).resolve().parent.parent
 PAGE = "CONTRIBUTING.md"
 # How many recipes there are at least, so that a page without any doesn't pass.
@@ -127,11 +129,8 @@ def main(words):
     wrong = [f"{PAGE}, {title}: {fault}" for title, recipe in found for fault in faults_of(recipe)]
     if len(found) < LEAST:
         wrong.append(f"{PAGE} has {len(found)} recipes, and {LEAST} are wanted")
-    for it in wrong:
-        print(f"recipes: {it}")
-    if not wrong:
-        print(f"recipes: ok, {len(found)} recipes, {sum(len(rows(recipe)) for _, recipe in found)} files")
-    return 1 if wrong else 0
+    files = sum(len(rows(recipe)) for _, recipe in found)
+    return told("recipes", wrong, f"ok, {len(found)} recipes, {files} files")
 
 
 if __name__ == "__main__":

@@ -11,6 +11,8 @@ import re
 import runpy
 import sys
 
+from telling import told
+
 TOP = pathlib.Path(__file__).resolve().parent.parent
 CRATES = TOP / "crates"
 REFERENCE = "docs/REFERENCE.md"
@@ -310,12 +312,9 @@ def faults(text):
 
 def main():
     wrong = faults(read(REFERENCE))
-    for it in wrong:
-        print(f"reference: {it}")
-    if not wrong:
-        count = len(grammar() | replies() | manifest_words())
-        print(f"reference: ok, {len(numbers())} numbers and {count} words of the sources stand in it")
-    return 1 if wrong else 0
+    count = len(grammar() | replies() | manifest_words())
+    fine = f"ok, {len(numbers())} numbers and {count} words of the sources stand in it"
+    return told("reference", wrong, fine)
 
 
 if __name__ == "__main__":

@@ -18,22 +18,26 @@ import time
 from pathlib import Path
 
 TOP = Path(__file__).resolve().parent.parent
-PROVIDER = """#!/usr/bin/python3
-import os, socket, threading
-os.makedirs("/out/svc", exist_ok=True)
-door = socket.socket(socket.AF_UNIX)
-door.bind("/out/svc/bench.Door")
-door.listen(64)
+# What both programs begin with: a door that answers each line.
+BEGIN = """#!/usr/bin/python3
+import os, socket, sys, threading, time
 def serve(link):
     with link:
         while data := link.recv(1 << 16):
             if data.endswith(b"\\n"):
                 link.sendall(b"1\\n")
-while True:
-    threading.Thread(target=serve, args=(door.accept()[0],), daemon=True).start()
+def open_door(path):
+    door = socket.socket(socket.AF_UNIX)
+    door.bind(path)
+    door.listen(64)
+    while True:
+        threading.Thread(target=serve, args=(door.accept()[0],), daemon=True).start()
 """
-CLIENT = """#!/usr/bin/python3
-import os, socket, sys, threading, time
+PROVIDER = BEGIN + """
+os.makedirs("/out/svc", exist_ok=True)
+open_door("/out/svc/bench.Door")
+"""
+CLIENT = BEGIN + """
 def show(what, times):
     times.sort()
     n = len(times)
@@ -70,17 +74,6 @@ def carried(path, size):
         link.sendall(b"\\n")
         link.recv(100)
         return size / (time.perf_counter() - begun) / 1e9
-def direct():
-    door = socket.socket(socket.AF_UNIX)
-    door.bind(os.path.join("/tmp", "direct"))
-    door.listen(64)
-    def serve(link):
-        with link:
-            while data := link.recv(1 << 16):
-                if data.endswith(b"\\n"):
-                    link.sendall(b"1\\n")
-    while True:
-        threading.Thread(target=serve, args=(door.accept()[0],), daemon=True).start()
 def in_turns(what, work, count):
     # Both ways in short rounds beside each other, since other work may come and go.
     found = {through: [], plain: []}
@@ -93,7 +86,7 @@ ROUNDS = 10
 through, plain = "/svc/bench.Door", os.path.join("/tmp", "direct")
 connects(through, 3)
 if os.fork() == 0:
-    direct()
+    open_door(plain)
 while True:
     try:
         connects(plain, 3)
@@ -279,11 +272,9 @@ def main():
     sys.dont_write_bytecode = True
     sys.path.insert(0, str(TOP / "tools"))
     from tests.hosting.trial import Host, folder, package, root_of
-    from tests.hosting.user import as_another_user, reason_to_skip
+    from tests.hosting.user import as_another_user, can_host
 
-    why = reason_to_skip()
-    if why:
-        print(f"skipped: a host can't run here, since {why}")
+    if not can_host():
         return 0
     if os.getuid() == 0:
         return as_another_user(__file__)

@@ -82,13 +82,18 @@ def chain(size):
     yield Case("shut a chain down", size, started + "0 shutdown .\n", started, commands=size)
 
 
+def filled(what, size, again):
+    """A realm that a start fills by one manifest, and its shutdown."""
+    text = root(again, ("a", again))
+    started = text + "0 start .\n"
+    yield Case(f"{what}: start", size, started, text, commands=size)
+    yield Case(f"{what}: shutdown", size, started + "0 shutdown .\n", started, commands=size)
+
+
 def itself(size):
     """A manifest with itself as an eager child: a start fills the realm with one chain."""
     again = f'{{"children":[{EAGER % ("c", "a")}],"program":{{"runner":"gen"}}}}'
-    text = root(again, ("a", again))
-    started = text + "0 start .\n"
-    yield Case("itself: start", size, started, text, commands=size)
-    yield Case("itself: shutdown", size, started + "0 shutdown .\n", started, commands=size)
+    yield from filled("itself", size, again)
     text = root(COLLECTION, ("a", again)) + "0 start .\n0 create . k c #meta/a.cm\n0 start k:c\n"
     yield Case("itself: destroy", size, text + "0 destroy k:c\n", text, commands=size)
 
@@ -113,10 +118,7 @@ def whole_chain(size):
 def itself_twice(size):
     """A manifest with itself as two eager children: a start fills the realm."""
     again = f'{{"children":[{EAGER % ("c", "a")},{EAGER % ("d", "a")}],"program":{{"runner":"gen"}}}}'
-    text = root(again, ("a", again))
-    started = text + "0 start .\n"
-    yield Case("itself twice: start", size, started, text, commands=size)
-    yield Case("itself twice: shutdown", size, started + "0 shutdown .\n", started, commands=size)
+    yield from filled("itself twice", size, again)
 
 
 def long_monikers(size):

@@ -28,6 +28,7 @@ sys.dont_write_bytecode = True
 sys.path.insert(0, os.path.join(HERE, "..", "tools"))
 
 from cm_tools.meeting import connected
+from served import Served
 
 PROGRAM = os.path.abspath(sys.argv[1] if len(sys.argv) > 1 else os.path.join(HERE, "..", "component_manager"))
 ROOT = "fuchsia-pkg://t/a#meta/root.cm"
@@ -84,41 +85,27 @@ def crowd(folder, children):
         file.write(f'{{"children":[{rows}]}}')
 
 
-class Server:
+class Server(Served):
     """A server at a path, which is ended with the case."""
 
     def __init__(self, folder, sessions=1, workers=1, path=None, repository=None, before=None):
-        self.path = os.path.join(folder, "s") if path is None else path
-        words = ["serve", self.path, "--root", ROOT, "--repo", repository or manifests(folder)]
+        path = os.path.join(folder, "s") if path is None else path
+        words = ["serve", path, "--root", ROOT, "--repo", repository or manifests(folder)]
         words += ["--sessions", str(sessions), "--workers", str(workers)]
-        self.process = subprocess.Popen(
+        process = subprocess.Popen(
             [PROGRAM, *words],
             stdin=subprocess.DEVNULL,
             stdout=subprocess.PIPE,
             stderr=subprocess.PIPE,
             preexec_fn=before,
         )
-
-    def __enter__(self):
-        return self
-
-    def __exit__(self, *what):
-        if self.process.poll() is None:
-            self.process.kill()
-        self.process.communicate()
+        super().__init__(path, process)
 
     def ready(self):
-        """Waits until the server is there. Nobody connects for it: that would be a session."""
-        end = time.monotonic() + PATIENCE
-        while time.monotonic() < end and self.process.poll() is None:
-            try:
-                about = os.stat(self.path)
-            except OSError:
-                about = None
-            if about and stat.S_ISSOCK(about.st_mode) and stat.S_IMODE(about.st_mode) == 0o600:
-                return self
-            time.sleep(0.005)
-        raise Odd(f"the server isn't there: status {self.process.poll()}, {self.said()}")
+        """Waits until the server is there."""
+        if not self.is_there(PATIENCE):
+            raise Odd(f"the server isn't there: status {self.process.poll()}, {self.said()}")
+        return self
 
     def said(self):
         """What a server that has ended wrote on its streams."""

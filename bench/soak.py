@@ -31,7 +31,6 @@ import random
 import re
 import signal
 import socket
-import stat
 import subprocess
 import sys
 import tempfile
@@ -42,6 +41,7 @@ from dataclasses import replace
 
 import journals
 import realms
+from served import Served
 
 HERE = os.path.dirname(os.path.abspath(__file__))
 sys.dont_write_bytecode = True
@@ -191,37 +191,25 @@ def can_part(fitting):
 # ---- a server, and who asks it
 
 
-class Server:
+class Server(Served):
     """A server of a case's realm at a path in a folder, which is ended with the `with` block."""
 
     def __init__(self, soak, folder, case, sessions, workers):
-        self.path = os.path.join(folder, "s")
+        path = os.path.join(folder, "s")
         repository = os.path.join(folder, "repo")
         case.write(repository)
-        words = ["serve", self.path, "--root", f"{realms.PACKAGE}m0.cm", "--repo", repository]
+        words = ["serve", path, "--root", f"{realms.PACKAGE}m0.cm", "--repo", repository]
         words += ["--sessions", str(sessions), "--workers", str(workers)]
         environment = {**os.environ, VARIABLE: os.path.join(folder, "journal")}
-        self.process = subprocess.Popen([soak.program, *words], env=environment, stdin=subprocess.DEVNULL,
-                                        stdout=subprocess.PIPE, stderr=subprocess.PIPE)
-
-    def __enter__(self):
-        return self
-
-    def __exit__(self, *what):
-        if self.process.poll() is None:
-            self.process.kill()
-        self.process.communicate()
+        process = subprocess.Popen([soak.program, *words], env=environment, stdin=subprocess.DEVNULL,
+                                   stdout=subprocess.PIPE, stderr=subprocess.PIPE)
+        super().__init__(path, process)
 
     def ready(self):
-        """Waits until the server is there. Nobody connects for it: that would be a session."""
-        end = time.monotonic() + PATIENCE
-        while time.monotonic() < end and self.process.poll() is None:
-            with contextlib.suppress(OSError):
-                mode = os.stat(self.path).st_mode
-                if stat.S_ISSOCK(mode) and stat.S_IMODE(mode) == 0o600:
-                    return self
-            time.sleep(0.002)
-        raise Odd(f"the server isn't there: status {self.process.poll()}")
+        """Waits until the server is there."""
+        if not self.is_there(PATIENCE):
+            raise Odd(f"the server isn't there: status {self.process.poll()}")
+        return self
 
     def connect(self):
         """A link, as soon as the server listens: before that the socket's file may be that of another."""

@@ -74,9 +74,7 @@ def dot_text(graph: Graph) -> str:
         fill, border = COLOURS[one.state]
         label = f"{_dot(one.name)}\\n{one.state}"
         lines.append(f'  i{one.incarnation} [label="{label}", fillcolor="{fill}", color="{border}"];')
-    shown = {one.incarnation for one in graph.instances}
-    for one in graph.instances:
-        lines.extend(f"  i{one.incarnation} -> i{child};" for child in one.children if child in shown)
+    lines.extend(f"  i{parent} -> i{child};" for parent, child in _tree(graph))
     lines.extend(f'  {name} [label="{name}", shape=ellipse];' for name in _outsiders(graph))
     for (client, end, is_refused), paths in _bundles(graph).items():
         lines += _dot_route(len(lines), f"i{client}", end, is_refused, paths)
@@ -90,9 +88,7 @@ def mermaid_text(graph: Graph) -> str:
     for one in graph.instances:
         label = f"{_mermaid(one.name)}<br/>{one.state}"
         lines.append(f'  i{one.incarnation}["{label}"]:::{one.state}')
-    shown = {one.incarnation for one in graph.instances}
-    for one in graph.instances:
-        lines.extend(f"  i{one.incarnation} --- i{child}" for child in one.children if child in shown)
+    lines.extend(f"  i{parent} --- i{child}" for parent, child in _tree(graph))
     lines.extend(f'  {name}(["{name}"])' for name in _outsiders(graph))
     for number, ((client, end, is_refused), paths) in enumerate(_bundles(graph).items()):
         told = "<br/>".join(map(_mermaid, paths))
@@ -107,6 +103,12 @@ def mermaid_text(graph: Graph) -> str:
     if any(is_refused for _, _, is_refused in _bundles(graph)):
         lines.append("  classDef refused fill:#fee2e2,stroke:#dc2626,color:#18181b")
     return "\n".join(lines) + "\n"
+
+
+def _tree(graph: Graph) -> list[tuple[int, int]]:
+    """Each instance with each of its children, where both are shown."""
+    shown = {one.incarnation for one in graph.instances}
+    return [(one.incarnation, child) for one in graph.instances for child in one.children if child in shown]
 
 
 def _dot_route(number: int, client: str, end: str, is_refused: bool, paths: list[str]) -> list[str]:

@@ -72,12 +72,8 @@ def _askings(world: World) -> dict[str, Any]:
 
 def _instance(one: Instance, world: World) -> dict[str, Any]:
     return {
-        "incarnation": one.incarnation,
-        "moniker": one.moniker,
+        **one.identity(),
         "name": one.name,
-        "parent": one.parent,
-        "children": one.children,
-        "url": one.url,
         "absolute": one.absolute,
         "runner": one.declared().get("program", {}).get("runner", ""),
         "collection": one.collection,

@@ -100,6 +100,16 @@ class Instance:
             return "stopped" if self.has_run else "resolved"
         return "discovered"
 
+    def identity(self) -> dict[str, Any]:
+        """Which one it is, in the names that all tools write."""
+        return {
+            "incarnation": self.incarnation,
+            "moniker": self.moniker,
+            "parent": self.parent,
+            "children": self.children,
+            "url": self.url,
+        }
+
     def declared(self) -> dict[str, Any]:
         """The declaration, with every section; empty where it isn't resolved."""
         if not self.declaration:

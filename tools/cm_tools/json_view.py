@@ -61,11 +61,7 @@ def _entry_value(entry: Entry, world: World) -> dict[str, Any]:
 def instance_value(instance: Instance, world: World) -> dict[str, Any]:
     """One instance, with each state that it had and the entry that made it so."""
     return {
-        "incarnation": instance.incarnation,
-        "moniker": instance.moniker,
-        "parent": instance.parent,
-        "children": instance.children,
-        "url": instance.url,
+        **instance.identity(),
         "absolute_url": instance.absolute or None,
         "state": instance.state,
         "closing": instance.is_closing,

@@ -82,8 +82,8 @@ fn push_worker(alloc: Global, sent: &mut Vec<u8>, back: &Back<MemoryLink>) -> Op
     push_line(sent, line.as_str())
 }
 
-/// What was written to the links, link by link: the number of its worker, how often the link failed where it
-/// did, and then the bytes.
+/// What was written to the links of a run, to be compared with the ends of its case. For each link: a line
+/// with its worker, and how often it failed where it did, and then the bytes.
 pub fn sent_of(alloc: Global, links: &[Back<MemoryLink>]) -> Option<Vec<u8>> {
     let mut sent = Vec::new(alloc);
     for back in links {

@@ -37,12 +37,7 @@ const WORDS: &str = "=> out out+ err err+ sent sent+ told entries \
 
 /// Whether each line of these ends begins with a word that is known, or is a status.
 pub fn are_known_ends(ends: &str) -> bool {
-    for line in ends.split('\n') {
-        if !is_known(line) {
-            return false;
-        }
-    }
-    true
+    ends.split('\n').all(|line| is_known(line))
 }
 
 /// Whether a line of the ends is a status, is empty, or begins with a word that is known.

@@ -32,15 +32,10 @@ const WORDS: &str =
 
 /// Whether each line after the first begins with a word that is known.
 pub fn are_known(case: &str) -> bool {
-    let Some((_, lines)) = case.split_once('\n') else {
-        return true;
-    };
-    for line in lines.split('\n') {
-        if !is_known(line) {
-            return false;
-        }
+    match case.split_once('\n') {
+        Some((_, lines)) => lines.split('\n').all(|line| is_known(line)),
+        None => true,
     }
-    true
 }
 
 /// Whether a line of a case begins with a word that is known, or with `@`.

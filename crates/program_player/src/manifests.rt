@@ -125,6 +125,10 @@ const TEXTS: &str = "\
     \x20   ],\n\
     }\n\
     %%\n\
+    == @new: the manifest of what cases create\n\
+    manifest fuchsia-pkg://t/a#new\n\
+    {}\n\
+    %%\n\
     == @store-empty\n\
     manifest fuchsia-pkg://t/a#store\n\
     {}\n\
@@ -149,9 +153,23 @@ const TEXTS: &str = "\
     {capabilities:[{directory:'data',path:'/data',rights:['rw*']}],expose:[{from:'self',directory:'data',\
     subdir:'a'}]}\n\
     %%\n\
+    == @to-mid: a root that offers the store's log to an instance between it and a client\n\
+    manifest fuchsia-pkg://t/a#meta/root.cm\n\
+    {children:[{name:'store',url:'#s'},{name:'mid',url:'#m'}],offer:[{protocol:'log',from:'#store',\
+    to:'#mid'}]}\n\
+    %%\n\
+    == @to-mid-taking-over: the same, where the offer takes over what its target asks\n\
+    manifest fuchsia-pkg://t/a#meta/root.cm\n\
+    {children:[{name:'store',url:'#s'},{name:'mid',url:'#m'}],offer:[{protocol:'log',from:'#store',\
+    to:'#mid',availability:'same_as_target'}]}\n\
+    %%\n\
     == @store-of-log\n\
     manifest fuchsia-pkg://t/a#s\n\
     {capabilities:[{protocol:'log'}],expose:[{protocol:'log',from:'self'}]}\n\
+    %%\n\
+    == @optional-log: a store whose log is optional where it is exposed\n\
+    manifest fuchsia-pkg://t/a#s\n\
+    {capabilities:[{protocol:'log'}],expose:[{protocol:'log',from:'self',availability:'optional'}]}\n\
     %%\n\
     == @taking-over: an instance between the root and a client, whose offer takes over what its target asks\n\
     manifest fuchsia-pkg://t/a#m\n\

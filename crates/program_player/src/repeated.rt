@@ -91,6 +91,21 @@ const TEXTS: &str = "\
     \"to\":\"#a\"},{\"as\":\"s\",\"from\":\"self\",\"storage\":\"s\",\"to\":\"#c\"},{\"as\":\"t\",\
     \"from\":\"self\",\"storage\":\"t\",\"to\":\"#a\"},{\"as\":\"t\",\"from\":\"self\",\"storage\":\"t\",\
     \"to\":\"#c\"}],\"use\":[]}\n\
+    == usage: the end of words that ask for nothing\n\
+    => 2\n\
+    err usage: run, check, serve, audit, generate, environments, storage\n\
+    == no-json: the end of a check of what is no relaxed JSON\n\
+    => 1\n\
+    out invalid 31 manifest 0\n\
+    == brackets: a check of opening brackets, up to their number\n\
+    check\n\
+    fill 91\n\
+    == child-of-long-name: a check of a child, up to the length of its name\n\
+    check\n\
+    + {children:[{name:'\n\
+    fill 110\n\
+    == behind-name: what stands behind that name\n\
+    + ',url:'#a'}]}\n\
     == plan: what gates have and decline, and the manifests behind a script that asks them\n\
     held @logger 0\n\
     held @logger-empty 9\n\
@@ -101,13 +116,170 @@ const TEXTS: &str = "\
     | %%\n\
     @client\n\
     @root-line\n\
+    == realm: a root with a logger and a client, up to the commands of its script\n\
+    @root\n\
+    @logger\n\
+    @client\n\
+    @root-line\n\
+    == runs-once: a script in which a child runs once\n\
+    run\n\
+    @root-once\n\
+    @running\n\
+    @root-line\n\
+    | 0 create . once y #meta/x.cm\n\
+    | 0 show once:y\n\
+    | 0 exited once:y\n\
+    == ran-once: its answers\n\
+    out 0 created . once:y incarnation 1\n\
+    out 0 shown once:y incarnation 1 url #meta/x.cm resolved on\n\
+    out 0 exited once:y\n\
+    == room: a script whose gates have room to note the number of questions behind it\n\
+    run\n\
+    room\n\
+    == asked-plan: `$plan$` with its first questions\n\
+    $plan$\n\
+    | 0 resolve logger\n\
+    | 0 resolve none\n\
+    | 0 start logger\n\
+    | 0 start client\n\
+    == plan-answers: what a plan without failures answers to them\n\
+    out 0 resolved logger action 2\n\
+    out 0 refused 83 cannot-resolve action 3 absent\n\
+    out 0 started logger action 4\n\
+    out 0 refused 84 cannot-start action 6 declined\n\
+    == plan-told: what its gates tell then\n\
+    told 0 fetch fuchsia-pkg://t/a#meta/logger.cm found\n\
+    told 0 fetch fuchsia-pkg://t/a#meta/none.cm absent\n\
+    told 0 launch fuchsia-pkg://t/a#meta/logger.cm action 4 Running\n\
+    told 0 launch fuchsia-pkg://t/a#meta/client.cm action 6 Declined\n\
+    == eager: a script that starts the parent of an eager child, and its first answer\n\
+    @eager-root\n\
+    @eager-child\n\
+    @root-line\n\
+    | 0 start .\n\
+    | 0 show e\n\
+    => 0\n\
+    out 0 started . action 2\n\
+    == both-started: two lanes start one instance as one action\n\
+    out 0 started logger action 3\n\
+    out 1 started logger action 3\n\
+    == neither-started: two lanes whose one action fails\n\
+    out 0 refused 84 cannot-start action 3 gate-failed\n\
+    out 1 refused 84 cannot-start action 3 gate-failed\n\
+    == first-failed: what the gates tell then, where the first lane asked\n\
+    told 0 launch fuchsia-pkg://t/a#meta/logger.cm action 3 Failed\n\
+    told 0 faults 1\n\
+    == second-failed: the same of the second lane\n\
+    told 1 launch fuchsia-pkg://t/a#meta/logger.cm action 3 Failed\n\
+    told 1 faults 1\n\
     == route: a script that asks for a route\n\
     @root\n\
     @logger\n\
     @client\n\
     @ask\n\
+    == read-in-pieces: a script that is read by 100 bytes, up to the number of the read that fails\n\
+    run\n\
+    piece 100\n\
+    read\n\
+    == read-fault: the script `$route$`, and the end of a run that can't read it\n\
+    $route$\n\
+    => 3\n\
+    read-faults 1\n\
+    entries 0\n\
+    err read fault\n\
+    == written-in-pieces: a script that is answered by seven bytes, up to the write that fails\n\
+    run\n\
+    piece 7\n\
+    write\n\
+    == write-fault: the script `$route$`, and the end of a run that can't write its answer\n\
+    $route$\n\
+    => 4\n\
+    write-faults 1\n\
+    entries 11\n\
+    == void-offered: a script whose root offers nothing, up to its availability\n\
+    run\n\
+    @void-offer\n\
+    |\n\
+    == used-as: the rest of that manifest, and its client, up to the availability of its use\n\
+    | %%\n\
+    @p-client\n\
+    |\n\
+    == asked-p: the rest of that manifest, and the question\n\
+    | %%\n\
+    @ask-p\n\
+    => 0\n\
+    == client-asks: a client that asks for its route\n\
+    @client\n\
+    @ask\n\
+    => 0\n\
+    == asked-in: the end of a manifest, and a question for its directory\n\
+    | %%\n\
+    @ask-in\n\
+    => 0\n\
+    == data-is-used: a client that uses a directory with all rights to read and write, and the question\n\
+    | manifest fuchsia-pkg://t/a#c\n\
+    | {use:[{path:'/in',directory:'data',rights:['rw*']}]}\n\
+    $asked-in$\n\
+    == protocol-is-used: the same of a protocol, behind a store of a directory\n\
+    @store-of-data\n\
+    | manifest fuchsia-pkg://t/a#c\n\
+    | {use:[{path:'/in',protocol:'data'}]}\n\
+    $asked-in$\n\
+    == offer-of-protocol: a root that offers a protocol, up to where it is from\n\
+    | manifest fuchsia-pkg://t/a#meta/root.cm\n\
+    | {children:[{name:'store',url:'#s'},{name:'client',url:'#c'}],offer:[{to:'#client',protocol:'data',\
+    from:\n\
+    == client-of-subdirectory: a subdirectory of a subdirectory, up to its client's manifest\n\
+    @offer-of-subdirectory\n\
+    @store-of-subdirectory\n\
+    | manifest fuchsia-pkg://t/a#c\n\
+    == log-through-mid: a store's log that is offered through an instance, up to the availability there\n\
+    @to-mid\n\
+    @store-of-log\n\
+    | manifest fuchsia-pkg://t/a#m\n\
+    | {children:[{name:'client',url:'#c'}],offer:[{protocol:'log',from:'parent',to:'#client',\
+    availability:\n\
+    == optional-is-asked: a client whose use is optional, and the question\n\
+    | manifest fuchsia-pkg://t/a#c\n\
+    | {use:[{protocol:'log',availability:'optional'}]}\n\
+    | %%\n\
+    @ask-log\n\
+    => 0\n\
+    == root-of-a: a root with one child, up to the child's manifest\n\
+    | manifest fuchsia-pkg://t/a#meta/root.cm\n\
+    | {children:[{name:'a',url:'#a'}]}\n\
+    | %%\n\
+    | manifest fuchsia-pkg://t/a#a\n\
+    == opened-at-b: a child below it that exposes a log, which is opened through both\n\
+    | manifest fuchsia-pkg://t/a#b\n\
+    | {capabilities:[{protocol:'log'}],expose:[{protocol:'log',from:'self',\
+    availability:'transitional'}]}\n\
+    | %%\n\
+    @root-line\n\
+    | 0 open-exposed a log\n\
+    => 0\n\
     == serve: the words of a service of one link at once\n\
     serve s --root fuchsia-pkg://t/a#meta/root.cm --repo r --workers 1\n\
+    == asks: what a link gives that quits\n\
+    | show .\n\
+    | foo\n\
+    | quit\n\
+    == shown: that the root is shown to a link\n\
+    sent shown . incarnation 0 url fuchsia-pkg://t/a#meta/root.cm unresolved off\n\
+    == shown-and-refused: the same on a link of its own, and then that a line is no command\n\
+    sent worker 0\n\
+    $shown$\n\
+    sent refused 70 bad-command at 0\n\
+    == served: the end of a service of which one link asks for the root\n\
+    => 0\n\
+    entries 2\n\
+    sent worker 0\n\
+    $shown$\n\
+    == no-door: the end of a service whose door fails before a link asks\n\
+    => 5\n\
+    door-faults 1\n\
+    entries 0\n\
+    err door fault\n\
     == lines: what a link gives\n\
     | show @1\n\
     | show @2\n\
@@ -153,25 +325,29 @@ const TEXTS: &str = "\
     out 3 0 end 1 resolved fuchsia-pkg://t/a#meta/root.cm\n\
     == starts-one: a script that starts the root, and a child in its collection\n\
     @root-with-collection\n\
-    | manifest fuchsia-pkg://t/a#new\n\
-    | {}\n\
-    | %%\n\
+    @new\n\
     @root-line\n\
     | 0 start .\n\
     | 0 create . coll one #new\n\
     | 0 start coll:one\n\
-    == journal-of-one: the journal of that script\n\
+    == started-one: the answers of that script\n\
+    out 0 started . action 2\n\
+    out 0 created . coll:one incarnation 1\n\
+    out 0 started coll:one action 4\n\
+    == start-of-root: a journal in which the root is started first, up to its declaration\n\
     out journal\n\
     out root fuchsia-pkg://t/a#meta/root.cm\n\
     out 1 0 find . => found 0\n\
     out 2 0 begin start 0 => need 0\n\
     out 3 0 begin resolve 0 => begun 1\n\
+    == journal-to-one: the journal of that script, up to the new child\n\
+    $start-of-root$\n\
     out 4 0 end 1 resolved fuchsia-pkg://t/a#meta/root.cm $collection$ => ended resolved\n\
     out 5 0 begin start 0 => begun 2\n\
     out 6 0 end 2 started => ended started\n\
     out 7 0 find . => found 0\n\
     out 8 0 create 0 coll one #new => created 1\n\
-    out 9 0 find coll:one => found 1\n\
+    == one-starts: the entries in which that child starts\n\
     out 10 0 begin start 1 => need 1\n\
     out 11 0 begin resolve 1 => begun 3\n\
     out 12 0 end 3 resolved fuchsia-pkg://t/a#new $nothing$ => ended resolved\n\

@@ -8,18 +8,4 @@
 #![tactic(auto)]
 
 #[cfg(test)]
-mod cases;
-#[cfg(test)]
-mod doors;
-#[cfg(test)]
-mod player;
-#[cfg(test)]
-mod readers;
-#[cfg(test)]
-mod reading;
-#[cfg(test)]
-mod repositories;
-#[cfg(test)]
-mod rights;
-#[cfg(test)]
-mod values;
+mod tests;

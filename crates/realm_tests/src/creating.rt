@@ -37,7 +37,10 @@ fn create_with(
 ) -> Option<Option<NoStep>> {
     match both_names(alloc, names) {
         Some((coll, name)) => match Text::from_str(alloc, url) {
-            Ok(url) => Some(created(realm, alloc, caller, parent, coll, name, url, gives)),
+            Ok(url) => {
+                let made = realm.create(alloc, caller, parent, coll, name, url, gives);
+                Some(made.err())
+            }
             Err(_) => {
                 drop(coll);
                 drop(name);
@@ -50,22 +53,6 @@ fn create_with(
             None
         }
     }
-}
-
-/// Has a caller create a child in a collection, and answers why no step was made, if none was.
-fn created(
-    realm: &mut Realm,
-    alloc: Global,
-    caller: u32,
-    parent: u64,
-    coll: Name,
-    name: Name,
-    url: Text,
-    gives: List<Give>,
-) -> Option<NoStep> {
-    realm
-        .create(alloc, caller, parent, coll, name, url, gives)
-        .err()
 }
 
 /// Two names, between which a space stands.

@@ -45,6 +45,16 @@ fn kept_in(realm: &Realm) -> u64 {
     realm.kept()
 }
 
+/// A step: its caller, what it does, the incarnation of the instance that it does it with, and a word, which
+/// is empty where there is none.
+#[derive(Drop)]
+struct Step<'a> {
+    caller: u32,
+    verb: &'a str,
+    inc: u64,
+    word: &'a str,
+}
+
 /// Takes the step of a line: why no step was made, or none where one was.
 fn take(realm: &mut Realm, alloc: Global, line: &str) -> Option<Option<NoStep>> {
     let (caller, rest) = line.split_once(' ')?;
@@ -52,60 +62,51 @@ fn take(realm: &mut Realm, alloc: Global, line: &str) -> Option<Option<NoStep>> 
     let (inc, word) = rest.split_once(' ').unwrap_or((rest, ""));
     let caller = caller.parse().ok()?;
     let inc = inc.parse().ok()?;
-    look(realm, alloc, caller, verb, inc, word)
+    let step = Step {
+        caller,
+        verb,
+        inc,
+        word,
+    };
+    look(realm, alloc, &step)
 }
 
-/// Takes a step that leaves the tree as it is.
-fn look(
-    realm: &mut Realm,
-    alloc: Global,
-    caller: u32,
-    verb: &str,
-    inc: u64,
-    word: &str,
-) -> Option<Option<NoStep>> {
-    match verb {
-        "find" => find(realm, alloc, caller, word),
-        "show" => Some(show(realm, alloc, caller, inc)),
-        "list" => list(realm, alloc, caller, inc, word),
-        "tail" => tail(realm, caller, inc, word),
-        "route" => route(realm, alloc, caller, inc, word),
-        "open" => open_use(realm, alloc, caller, inc, word),
-        "open-exposed" => open_exposed(realm, alloc, caller, inc, word),
-        "reap" => Some(reap(realm, alloc, caller, inc)),
-        _ => change(realm, alloc, caller, verb, inc, word),
-    }
+/// Takes a step that leaves the tree as it is. A moniker that is to be found stands in the word.
+fn look(realm: &mut Realm, alloc: Global, step: &Step<'_>) -> Option<Option<NoStep>> {
+    let (caller, inc, word) = (step.caller, step.inc, step.word);
+    let made = match step.verb {
+        "find" => realm.find(alloc, caller, moniker_of(alloc, word)?),
+        "show" => realm.show(alloc, caller, inc),
+        "list" => realm.list(alloc, caller, inc, name_of(alloc, word)?),
+        "tail" => realm.tail(caller, inc, word.parse().ok()?),
+        "route" => realm.route(alloc, caller, inc, path_of(alloc, word)?),
+        "open" => realm.open_use(alloc, caller, inc, path_of(alloc, word)?),
+        "open-exposed" => realm.open_exposed(alloc, caller, inc, name_of(alloc, word)?),
+        "reap" => realm.reap(alloc, caller, inc),
+        _ => return change(realm, alloc, step),
+    };
+    Some(made.err())
 }
 
 /// Takes a step that changes the tree.
-fn change(
-    realm: &mut Realm,
-    alloc: Global,
-    caller: u32,
-    verb: &str,
-    inc: u64,
-    word: &str,
-) -> Option<Option<NoStep>> {
-    match verb {
-        "begin" => begin(realm, alloc, caller, inc, word),
-        "exited" => Some(exited(realm, alloc, caller, inc)),
-        "close" => Some(mark(realm, caller, false, inc)),
-        "doom" => Some(mark(realm, caller, true, inc)),
-        "create" => create(realm, alloc, caller, inc, word),
-        _ => end(realm, alloc, verb, inc, word),
-    }
+fn change(realm: &mut Realm, alloc: Global, step: &Step<'_>) -> Option<Option<NoStep>> {
+    let (caller, inc, word) = (step.caller, step.inc, step.word);
+    let made = match step.verb {
+        "begin" => realm.begin(alloc, caller, kind_of(word)?, inc),
+        "exited" => realm.exited(alloc, caller, inc),
+        "close" => realm.mark(caller, false, inc),
+        "doom" => realm.mark(caller, true, inc),
+        "create" => return create(realm, alloc, caller, inc, word),
+        _ => return end(realm, alloc, step),
+    };
+    Some(made.err())
 }
 
 /// Takes the steps of caller 0 that begin an action and end it, and in some those of caller 1
 /// meanwhile.
-fn end(
-    realm: &mut Realm,
-    alloc: Global,
-    verb: &str,
-    inc: u64,
-    word: &str,
-) -> Option<Option<NoStep>> {
-    match verb {
+fn end(realm: &mut Realm, alloc: Global, step: &Step<'_>) -> Option<Option<NoStep>> {
+    let (inc, word) = (step.inc, step.word);
+    match step.verb {
         "resolve" => resolve(realm, alloc, inc, manifest_of(word)),
         "started" => Some(started(realm, alloc, inc)),
         "killed" => Some(killed(realm, alloc, inc)),
@@ -118,88 +119,6 @@ fn end(
     }
 }
 
-/// Finds the instance of a moniker; the step's number isn't read.
-fn find(realm: &mut Realm, alloc: Global, caller: u32, word: &str) -> Option<Option<NoStep>> {
-    let moniker = moniker_of(alloc, word)?;
-    Some(realm.find(alloc, caller, moniker).err())
-}
-
-/// Takes the step `show`; the value says why none was made.
-fn show(realm: &mut Realm, alloc: Global, caller: u32, inc: u64) -> Option<NoStep> {
-    realm.show(alloc, caller, inc).err()
-}
-
-/// Lists the children in a collection.
-fn list(
-    realm: &mut Realm,
-    alloc: Global,
-    caller: u32,
-    inc: u64,
-    word: &str,
-) -> Option<Option<NoStep>> {
-    let coll = name_of(alloc, word)?;
-    Some(realm.list(alloc, caller, inc, coll).err())
-}
-
-/// Tells how long the history is, read from a place on.
-fn tail(realm: &mut Realm, caller: u32, inc: u64, word: &str) -> Option<Option<NoStep>> {
-    let from = word.parse().ok()?;
-    Some(realm.tail(caller, inc, from).err())
-}
-
-/// Routes what is used at a path.
-fn route(
-    realm: &mut Realm,
-    alloc: Global,
-    caller: u32,
-    inc: u64,
-    word: &str,
-) -> Option<Option<NoStep>> {
-    let path = path_of(alloc, word)?;
-    Some(realm.route(alloc, caller, inc, path).err())
-}
-
-/// Opens what is used at a path.
-fn open_use(
-    realm: &mut Realm,
-    alloc: Global,
-    caller: u32,
-    inc: u64,
-    word: &str,
-) -> Option<Option<NoStep>> {
-    let path = path_of(alloc, word)?;
-    Some(realm.open_use(alloc, caller, inc, path).err())
-}
-
-/// Opens what is exposed by a name.
-fn open_exposed(
-    realm: &mut Realm,
-    alloc: Global,
-    caller: u32,
-    inc: u64,
-    word: &str,
-) -> Option<Option<NoStep>> {
-    let name = name_of(alloc, word)?;
-    Some(realm.open_exposed(alloc, caller, inc, name).err())
-}
-
-/// Asks what is left to be removed of an instance.
-fn reap(realm: &mut Realm, alloc: Global, caller: u32, inc: u64) -> Option<NoStep> {
-    realm.reap(alloc, caller, inc).err()
-}
-
-/// Takes the step `begin`; the value says why none was made.
-fn begin(
-    realm: &mut Realm,
-    alloc: Global,
-    caller: u32,
-    inc: u64,
-    word: &str,
-) -> Option<Option<NoStep>> {
-    let kind = kind_of(word)?;
-    Some(realm.begin(alloc, caller, kind, inc).err())
-}
-
 /// The kind of action of this word.
 fn kind_of(word: &str) -> Option<ActKind> {
     match word {
@@ -208,16 +127,6 @@ fn kind_of(word: &str) -> Option<ActKind> {
         "stop" => Some(ActKind::Stop),
         _ => None,
     }
-}
-
-/// Takes the step `exited`; the value says why none was made.
-fn exited(realm: &mut Realm, alloc: Global, caller: u32, inc: u64) -> Option<NoStep> {
-    realm.exited(alloc, caller, inc).err()
-}
-
-/// Marks an instance to be shut down, or to be destroyed.
-fn mark(realm: &mut Realm, caller: u32, doom: bool, inc: u64) -> Option<NoStep> {
-    realm.mark(caller, doom, inc).err()
 }
 
 /// Puts down why no step was made.

@@ -34,7 +34,7 @@ fn told_in(alloc: Global, realm: &mut Realm, steps: &str, asked: &str) -> Option
     Some(told)
 }
 
-/// Puts down what is read behind the number of a line, at and below its moniker.
+/// Puts down what one line asks for: what happened after its number of entries, at and below its moniker.
 fn read_stream(alloc: Global, realm: &Realm, line: &str, told: &mut Text) -> Option<()> {
     let (from, scope) = line.split_once(' ')?;
     let scope = moniker_of(alloc, scope)?;

@@ -53,6 +53,14 @@ def reason_to_skip() -> str:
     return ""
 
 
+def can_host() -> bool:
+    """Whether a host can run here; where none can, it is told why."""
+    why = reason_to_skip()
+    if why:
+        print(f"skipped: a host can't run here, since {why}")
+    return not why
+
+
 def is_run(*words: str) -> bool:
     """Whether the other user runs something with success, in a moment."""
     try:

@@ -3,28 +3,22 @@
 /// Words that ask for nothing, and manifests for `check`.
 pub const CHECKS: &str = "\
     == \n\
-    => 2\n\
-    err usage: run, check, serve, audit, generate, environments, storage\n\
+    $usage$\n\
     == serve\n\
-    => 2\n\
-    err usage: run, check, serve, audit, generate, environments, storage\n\
+    $usage$\n\
     == run x\n\
-    => 2\n\
-    err usage: run, check, serve, audit, generate, environments, storage\n\
+    $usage$\n\
     == run --help\n\
-    => 2\n\
-    err usage: run, check, serve, audit, generate, environments, storage\n\
+    $usage$\n\
     == check --repo d\n\
-    => 2\n\
-    err usage: run, check, serve, audit, generate, environments, storage\n\
+    $usage$\n\
     == check\n\
     + {children:[{name:'a',url:'#meta/a.cm'},],/* one */}\n\
     => 0\n\
     out valid\n\
     == check\n\
     + {children:[\n\
-    => 1\n\
-    out invalid 31 manifest 0\n\
+    $no-json$\n\
     == check\n\
     + {children:[{name:'a',url:'#meta/a.cm',colour:'red'}]}\n\
     => 1\n\
@@ -43,27 +37,20 @@ pub const CHECKS: &str = "\
     {protocol:'q',from:'#b',to:'#a',dependency:'weak'}]}\n\
     => 0\n\
     out valid\n\
-    == check\n\
-    + {children:[{name:'\n\
-    fill 110 255\n\
-    + ',url:'#a'}]}\n\
+    == $child-of-long-name$ 255\n\
+    $behind-name$\n\
     => 0\n\
     out valid\n\
-    == check\n\
-    + {children:[{name:'\n\
-    fill 110 256\n\
-    + ',url:'#a'}]}\n\
+    == $child-of-long-name$ 256\n\
+    $behind-name$\n\
     => 1\n\
     out invalid 36 children 0 name\n\
     == check\n\
     + {facets:\n\
     fill 91 200\n\
-    => 1\n\
-    out invalid 31 manifest 0\n\
-    == check\n\
-    fill 91 1048576\n\
-    => 1\n\
-    out invalid 31 manifest 0\n\
+    $no-json$\n\
+    == $brackets$ 1048576\n\
+    $no-json$\n\
     == check\n\
     + {}\n\
     fill 32 1048575\n\

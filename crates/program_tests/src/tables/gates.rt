@@ -81,8 +81,7 @@ pub const GATES: &str = "\
     => 0\n\
     out 0 refused 83 cannot-resolve action 2 invalid 41 manifest 0\n\
     told 0 fetch fuchsia-pkg://t/a#meta/logger.cm found\n\
-    == run\n\
-    room 0\n\
+    == $room$ 0\n\
     held @logger 0\n\
     @root\n\
     @client\n\
@@ -94,10 +93,7 @@ pub const GATES: &str = "\
     told 0 faults 1\n\
     == run\n\
     declined fuchsia-pkg://t/a#meta/logger.cm\n\
-    @root\n\
-    @logger\n\
-    @client\n\
-    @root-line\n\
+    $realm$\n\
     | 0 start logger\n\
     | 0 events . 0\n\
     => 0\n\
@@ -108,10 +104,7 @@ pub const GATES: &str = "\
     told 0 launch fuchsia-pkg://t/a#meta/logger.cm action 3 Declined\n\
     == run\n\
     failing 0 1\n\
-    @root\n\
-    @logger\n\
-    @client\n\
-    @root-line\n\
+    $realm$\n\
     | 0 start logger\n\
     | 0 stop logger\n\
     | 0 events logger 9\n\
@@ -125,10 +118,7 @@ pub const GATES: &str = "\
     told 0 faults 1\n\
     == run\n\
     failing 0 1\n\
-    @root\n\
-    @logger\n\
-    @client\n\
-    @root-line\n\
+    $realm$\n\
     | 0 start client\n\
     | 0 open client /svc/fuchsia.logger.LogSink\n\
     | 0 open client /svc/fuchsia.logger.LogSink\n\
@@ -141,42 +131,25 @@ pub const GATES: &str = "\
     told 0 launch fuchsia-pkg://t/a#meta/logger.cm action 6 Running\n\
     told 0 faults 1\n\
     == run\n\
-    @eager-root\n\
-    @eager-child\n\
-    @root-line\n\
-    | 0 start .\n\
-    | 0 show e\n\
-    => 0\n\
-    out 0 started . action 2\n\
+    $eager$\n\
     out 0 shown e incarnation 1 url #meta/e.cm resolved on\n\
     told 0 launch fuchsia-pkg://t/a#meta/e.cm action 4 Running\n\
     == run\n\
     failing 0 0\n\
-    @eager-root\n\
-    @eager-child\n\
-    @root-line\n\
-    | 0 start .\n\
-    | 0 show e\n\
-    => 0\n\
-    out 0 started . action 2\n\
+    $eager$\n\
     out 0 shown e incarnation 1 url #meta/e.cm resolved off\n\
     told 0 launch fuchsia-pkg://t/a#meta/e.cm action 4 Failed\n\
     told 0 faults 1\n\
     == run\n\
     runs 20\n\
-    @root\n\
-    @logger\n\
-    @client\n\
-    @root-line\n\
+    $realm$\n\
     | 0 start logger\n\
     | 1 start logger\n\
     => 0\n\
-    out 0 started logger action 3\n\
-    out 1 started logger action 3\n\
+    $both-started$\n\
     told 0 launch fuchsia-pkg://t/a#meta/logger.cm action 3 Running\n\
     => 0\n\
-    out 0 started logger action 3\n\
-    out 1 started logger action 3\n\
+    $both-started$\n\
     told 1 launch fuchsia-pkg://t/a#meta/logger.cm action 3 Running\n\
     => 0\n\
     out 0 started logger action 3\n\
@@ -190,27 +163,19 @@ pub const GATES: &str = "\
     runs 20\n\
     failing 0 0\n\
     failing 1 0\n\
-    @root\n\
-    @logger\n\
-    @client\n\
-    @root-line\n\
+    $realm$\n\
     | 0 start logger\n\
     | 1 start logger\n\
     => 0\n\
-    out 0 refused 84 cannot-start action 3 gate-failed\n\
-    out 1 refused 84 cannot-start action 3 gate-failed\n\
-    told 0 launch fuchsia-pkg://t/a#meta/logger.cm action 3 Failed\n\
-    told 0 faults 1\n\
+    $neither-started$\n\
+    $first-failed$\n\
     => 0\n\
-    out 0 refused 84 cannot-start action 3 gate-failed\n\
-    out 1 refused 84 cannot-start action 3 gate-failed\n\
-    told 1 launch fuchsia-pkg://t/a#meta/logger.cm action 3 Failed\n\
-    told 1 faults 1\n\
+    $neither-started$\n\
+    $second-failed$\n\
     => 0\n\
     out 0 refused 84 cannot-start action 3 gate-failed\n\
     out 1 refused 84 cannot-start action 4 gate-failed\n\
-    told 0 launch fuchsia-pkg://t/a#meta/logger.cm action 3 Failed\n\
-    told 0 faults 1\n\
+    $first-failed$\n\
     told 1 launch fuchsia-pkg://t/a#meta/logger.cm action 4 Failed\n\
     told 1 faults 1\n\
     => 0\n\
@@ -218,39 +183,23 @@ pub const GATES: &str = "\
     out 1 refused 84 cannot-start action 3 gate-failed\n\
     told 0 launch fuchsia-pkg://t/a#meta/logger.cm action 4 Failed\n\
     told 0 faults 1\n\
-    told 1 launch fuchsia-pkg://t/a#meta/logger.cm action 3 Failed\n\
-    told 1 faults 1\n";
+    $second-failed$\n";
 
 /// What gates answer by their plan, what they note while there is room, and how often they fail. Of two
 /// manifests under one URL they have the first.
 pub const PLANS: &str = "\
-    == run\n\
-    room 5\n\
-    $plan$\n\
-    | 0 resolve logger\n\
-    | 0 resolve none\n\
-    | 0 start logger\n\
-    | 0 start client\n\
+    == $room$ 5\n\
+    $asked-plan$\n\
     | 0 stop logger\n\
     => 0\n\
-    out 0 resolved logger action 2\n\
-    out 0 refused 83 cannot-resolve action 3 absent\n\
-    out 0 started logger action 4\n\
-    out 0 refused 84 cannot-start action 6 declined\n\
+    $plan-answers$\n\
     out 0 stopped logger action 7\n\
-    told 0 fetch fuchsia-pkg://t/a#meta/logger.cm found\n\
-    told 0 fetch fuchsia-pkg://t/a#meta/none.cm absent\n\
-    told 0 launch fuchsia-pkg://t/a#meta/logger.cm action 4 Running\n\
-    told 0 launch fuchsia-pkg://t/a#meta/client.cm action 6 Declined\n\
+    $plan-told$\n\
     told 0 halt fuchsia-pkg://t/a#meta/logger.cm action 7 Stopped\n\
     == run\n\
     failing 0 0\n\
     failing 0 3\n\
-    $plan$\n\
-    | 0 resolve logger\n\
-    | 0 resolve none\n\
-    | 0 start logger\n\
-    | 0 start client\n\
+    $asked-plan$\n\
     | 0 start logger\n\
     | 0 stop logger\n\
     => 0\n\
@@ -268,35 +217,19 @@ pub const PLANS: &str = "\
     told 0 launch fuchsia-pkg://t/a#meta/logger.cm action 8 Running\n\
     told 0 halt fuchsia-pkg://t/a#meta/logger.cm action 9 Stopped\n\
     told 0 faults 2\n\
-    == run\n\
-    room 5\n\
+    == $room$ 5\n\
     failing 0 4\n\
     failing 0 9\n\
-    $plan$\n\
-    | 0 resolve logger\n\
-    | 0 resolve none\n\
-    | 0 start logger\n\
-    | 0 start client\n\
+    $asked-plan$\n\
     | 0 stop logger\n\
     => 0\n\
-    out 0 resolved logger action 2\n\
-    out 0 refused 83 cannot-resolve action 3 absent\n\
-    out 0 started logger action 4\n\
-    out 0 refused 84 cannot-start action 6 declined\n\
+    $plan-answers$\n\
     out 0 stopped logger by-force action 7\n\
-    told 0 fetch fuchsia-pkg://t/a#meta/logger.cm found\n\
-    told 0 fetch fuchsia-pkg://t/a#meta/none.cm absent\n\
-    told 0 launch fuchsia-pkg://t/a#meta/logger.cm action 4 Running\n\
-    told 0 launch fuchsia-pkg://t/a#meta/client.cm action 6 Declined\n\
+    $plan-told$\n\
     told 0 halt fuchsia-pkg://t/a#meta/logger.cm action 7 Failed\n\
     told 0 faults 1\n\
-    == run\n\
-    room 2\n\
-    $plan$\n\
-    | 0 resolve logger\n\
-    | 0 resolve none\n\
-    | 0 start logger\n\
-    | 0 start client\n\
+    == $room$ 2\n\
+    $asked-plan$\n\
     | 0 start logger\n\
     => 0\n\
     out 0 resolved logger action 2\n\
@@ -306,8 +239,7 @@ pub const PLANS: &str = "\
     out 0 refused 84 cannot-start action 7 gate-failed\n\
     told 0 untold\n\
     told 0 faults 3\n\
-    == run\n\
-    room 3\n\
+    == $room$ 3\n\
     $plan$\n\
     | 0 resolve logger\n\
     | 0 start logger\n\
@@ -320,14 +252,9 @@ pub const PLANS: &str = "\
     out 0 refused 84 cannot-start action 5 gate-failed\n\
     told 0 untold\n\
     told 0 faults 1\n\
-    == run\n\
-    room 0\n\
+    == $room$ 0\n\
     failing 0 1\n\
-    $plan$\n\
-    | 0 resolve logger\n\
-    | 0 resolve none\n\
-    | 0 start logger\n\
-    | 0 start client\n\
+    $asked-plan$\n\
     | 0 resolve logger\n\
     => 0\n\
     out 0 refused 83 cannot-resolve action 2 gate-failed\n\

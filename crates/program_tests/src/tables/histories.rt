@@ -389,16 +389,7 @@ pub const HISTORIES: &str = "\
     out 0 exited .\n\
     out 0 exited . already\n\
     out 0 refused 81 gone incarnation 1\n\
-    out journal\n\
-    out root fuchsia-pkg://t/a#meta/root.cm\n\
-    out 1 0 find . => found 0\n\
-    out 2 0 begin start 0 => need 0\n\
-    out 3 0 begin resolve 0 => begun 1\n\
-    out 4 0 end 1 resolved fuchsia-pkg://t/a#meta/root.cm $collection$ => ended resolved\n\
-    out 5 0 begin start 0 => begun 2\n\
-    out 6 0 end 2 started => ended started\n\
-    out 7 0 find . => found 0\n\
-    out 8 0 create 0 coll one #new => created 1\n\
+    $journal-to-one$\n\
     out 9 0 find . => found 0\n\
     out 10 0 exited 0 => left\n\
     out 11 0 reap 0 => reaping 1\n\
@@ -410,9 +401,7 @@ pub const HISTORIES: &str = "\
     out 17 0 show 1 => gone 1\n\
     == run --journal\n\
     @root-once\n\
-    | manifest fuchsia-pkg://t/a#new\n\
-    | {}\n\
-    | %%\n\
+    @new\n\
     @root-line\n\
     | 0 start .\n\
     | 0 create . once one #new\n\
@@ -421,11 +410,7 @@ pub const HISTORIES: &str = "\
     out 0 started . action 2\n\
     out 0 created . once:one incarnation 1\n\
     out 0 stopped . action 5\n\
-    out journal\n\
-    out root fuchsia-pkg://t/a#meta/root.cm\n\
-    out 1 0 find . => found 0\n\
-    out 2 0 begin start 0 => need 0\n\
-    out 3 0 begin resolve 0 => begun 1\n\
+    $start-of-root$\n\
     out 4 0 end 1 resolved fuchsia-pkg://t/a#meta/root.cm {\"capabilities\":[],\"children\":[],\
     \"collections\":[{\"allowed_offers\":\"static_only\",\"durability\":\"single_run\",\
     \"name\":\"once\"}],\"expose\":[],\"offer\":[],\"use\":[]} => ended resolved\n\

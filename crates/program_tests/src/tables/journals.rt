@@ -39,11 +39,7 @@ pub const STOPS: &str = "\
     out 0 started mid action 8\n\
     out 0 started mid/leaf action 10\n\
     out 1 shut .\n\
-    out journal\n\
-    out root fuchsia-pkg://t/a#meta/root.cm\n\
-    out 1 0 find . => found 0\n\
-    out 2 0 begin start 0 => need 0\n\
-    out 3 0 begin resolve 0 => begun 1\n\
+    $start-of-root$\n\
     out 4 0 end 1 resolved fuchsia-pkg://t/a#meta/root.cm {\"capabilities\":[],\
     \"children\":[{\"name\":\"provider\",\"startup\":\"lazy\",\"url\":\"#provider\"},\
     {\"name\":\"client\",\"startup\":\"lazy\",\"url\":\"#client\"},{\"name\":\"mid\",\
@@ -196,13 +192,13 @@ pub const STOPS: &str = "\
     | 0 show coll:one\n\
     | 0 stop .\n\
     => 0\n\
-    out 0 started . action 2\n\
-    out 0 created . coll:one incarnation 1\n\
-    out 0 started coll:one action 4\n\
+    $started-one$\n\
     out 1 shut .\n\
     out 0 shown coll:one incarnation 1 url #new resolved off shut\n\
     out 0 stopped . already\n\
-    $journal-of-one$\n\
+    $journal-to-one$\n\
+    out 9 0 find coll:one => found 1\n\
+    $one-starts$\n\
     out 15 1 find . => found 0\n\
     out 16 1 mark closing 0 => marked\n\
     out 17 1 pick 0 => stopping 1 5\n\
@@ -223,14 +219,14 @@ pub const STOPS: &str = "\
     | 0 start .\n\
     | 0 stop .\n\
     => 0\n\
-    out 0 started . action 2\n\
-    out 0 created . coll:one incarnation 1\n\
-    out 0 started coll:one action 4\n\
+    $started-one$\n\
     out 0 stopped . action 5\n\
     out 0 refused 81 gone incarnation 1\n\
     out 0 started . action 7\n\
     out 0 stopped . action 8\n\
-    $journal-of-one$\n\
+    $journal-to-one$\n\
+    out 9 0 find coll:one => found 1\n\
+    $one-starts$\n\
     out 15 0 find . => found 0\n\
     out 16 0 begin stop 0 => begun 5\n\
     out 17 0 end 5 stopped => ended stopped\n\
@@ -250,9 +246,7 @@ pub const STOPS: &str = "\
     out 31 0 reap 0 => reaping\n\
     == run --journal\n\
     @root-with-collection\n\
-    | manifest fuchsia-pkg://t/a#new\n\
-    | {}\n\
-    | %%\n\
+    @new\n\
     @root-line\n\
     | 0 create . coll one #new\n\
     | 0 start coll:one\n\

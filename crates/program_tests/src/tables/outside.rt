@@ -10,44 +10,16 @@ pub const OUTSIDE: &str = "\
     => 0\n\
     out 0 route /svc/fuchsia.logger.LogSink at logger incarnation 1 through use client, offer ., \
     expose logger, capability logger\n\
-    == run\n\
-    piece 100\n\
-    read 0\n\
-    $route$\n\
-    => 3\n\
-    read-faults 1\n\
-    entries 0\n\
-    err read fault\n\
-    == run\n\
-    piece 100\n\
-    read 3\n\
-    $route$\n\
-    => 3\n\
-    read-faults 1\n\
-    entries 0\n\
-    err read fault\n\
-    == run\n\
-    piece 100\n\
-    read 7\n\
-    $route$\n\
-    => 3\n\
-    read-faults 1\n\
-    entries 0\n\
-    err read fault\n\
-    == run\n\
-    piece 7\n\
-    write 0\n\
-    $route$\n\
-    => 4\n\
-    write-faults 1\n\
-    entries 11\n\
-    == run\n\
-    piece 7\n\
-    write 1\n\
-    $route$\n\
-    => 4\n\
-    write-faults 1\n\
-    entries 11\n\
+    == $read-in-pieces$ 0\n\
+    $read-fault$\n\
+    == $read-in-pieces$ 3\n\
+    $read-fault$\n\
+    == $read-in-pieces$ 7\n\
+    $read-fault$\n\
+    == $written-in-pieces$ 0\n\
+    $write-fault$\n\
+    == $written-in-pieces$ 1\n\
+    $write-fault$\n\
     out+ 0 route\n\
     == run\n\
     piece 100\n\

@@ -4,12 +4,10 @@
 pub const MANIFESTS: &str = "\
     == check\n\
     + {children:[\n\
-    => 1\n\
-    out invalid 31 manifest 0\n\
+    $no-json$\n\
     == check\n\
     + {children:[]/\n\
-    => 1\n\
-    out invalid 31 manifest 0\n\
+    $no-json$\n\
     == check\n\
     + []\n\
     => 1\n\
@@ -487,12 +485,9 @@ pub const FIRST_BY_NUMBER: &str = "\
 /// The limits of lengths and rows, just kept and just passed. The rows of all kinds count for the limit of
 /// their section; a manifest of as many offers as may be is read, and its first offer judged.
 pub const LIMITS: &str = "\
-    == check\n\
-    fill 91 1048576\n\
-    => 1\n\
-    out invalid 31 manifest 0\n\
-    == check\n\
-    fill 91 1048577\n\
+    == $brackets$ 1048576\n\
+    $no-json$\n\
+    == $brackets$ 1048577\n\
     => 1\n\
     out invalid 41 manifest 0\n\
     == check\n\
@@ -500,8 +495,7 @@ pub const LIMITS: &str = "\
     fill 91 127\n\
     + ]]]]]]]]]]]]]]]]]]]]]]]]]]]]]]]]]]]]]]]]]]]]]]]]]]]]]]]]]]]]]]]]]]]]]]]]]]]]]]]]]]]]]]]]]]]]]]]]]]\
     ]]]]]]]]]]]]]]]]]]]]]]]]]]]]]}\n\
-    => 1\n\
-    out invalid 31 manifest 0\n\
+    $no-json$\n\
     == check\n\
     + {use:[{protocol:[\n\
     names d 8192\n\

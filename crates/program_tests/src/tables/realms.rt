@@ -3,10 +3,7 @@
 /// Scripts over realms that change.
 pub const REALMS: &str = "\
     == run\n\
-    @root\n\
-    @logger\n\
-    @client\n\
-    @root-line\n\
+    $realm$\n\
     | 0 start client\n\
     | sync\n\
     | 1 show client\n\
@@ -17,10 +14,7 @@ pub const REALMS: &str = "\
     out 1 shown client incarnation 2 url #meta/client.cm resolved on\n\
     out 0 shown client incarnation 2 url #meta/client.cm resolved on\n\
     == run\n\
-    @root\n\
-    @logger\n\
-    @client\n\
-    @root-line\n\
+    $realm$\n\
     | 0 start logger\n\
     | 0 show logger\n\
     | 0 exited logger\n\
@@ -137,10 +131,7 @@ pub const REALMS: &str = "\
     out 0 route /svc/p at dyn:x incarnation 3 through use dyn:z, offer ., expose dyn:x, capability dyn:x\
     \n\
     == run\n\
-    @root\n\
-    @logger\n\
-    @client\n\
-    @root-line\n\
+    $realm$\n\
     | 0 start client\n\
     | 0 shutdown .\n\
     | 0 start client\n\
@@ -180,24 +171,13 @@ pub const REALMS: &str = "\
     out 0 stopped . action 5\n\
     out 0 refused 81 gone incarnation 1\n\
     out 0 children . coll 0\n\
-    == run\n\
-    @root-once\n\
-    @running\n\
-    @root-line\n\
-    | 0 create . once y #meta/x.cm\n\
-    | 0 show once:y\n\
-    | 0 exited once:y\n\
+    == $runs-once$\n\
     | 0 show once:y\n\
     => 0\n\
-    out 0 created . once:y incarnation 1\n\
-    out 0 shown once:y incarnation 1 url #meta/x.cm resolved on\n\
-    out 0 exited once:y\n\
+    $ran-once$\n\
     out 0 refused 80 not-found in .\n\
     == run\n\
-    @root\n\
-    @logger\n\
-    @client\n\
-    @root-line\n\
+    $realm$\n\
     | 0 start logger\n\
     | 0 exited logger\n\
     | 0 events . 0\n\
@@ -212,18 +192,10 @@ pub const REALMS: &str = "\
     out   11 stopped logger incarnation 1\n\
     out 0 events logger 1 next 15\n\
     out   11 stopped logger incarnation 1\n\
-    == run\n\
-    @root-once\n\
-    @running\n\
-    @root-line\n\
-    | 0 create . once y #meta/x.cm\n\
-    | 0 show once:y\n\
-    | 0 exited once:y\n\
+    == $runs-once$\n\
     | 0 events . 0\n\
     => 0\n\
-    out 0 created . once:y incarnation 1\n\
-    out 0 shown once:y incarnation 1 url #meta/x.cm resolved on\n\
-    out 0 exited once:y\n\
+    $ran-once$\n\
     out 0 events . 5 next 19\n\
     out   4 resolved . incarnation 0\n\
     out   8 resolved once:y incarnation 1\n\

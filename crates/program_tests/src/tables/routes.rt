@@ -10,39 +10,19 @@ pub const ROUTES: &str = "\
     == run\n\
     @root-without-offer\n\
     @logger\n\
-    @client\n\
-    @ask\n\
-    => 0\n\
+    $client-asks$\n\
     out 0 refused 87 no-offer at offer .\n\
-    == run\n\
-    @void-offer\n\
-    | \"optional\"}]}\n\
-    | %%\n\
-    @p-client\n\
-    | \"transitional\"}]}\n\
-    | %%\n\
-    @ask-p\n\
-    => 0\n\
+    == $void-offered$ \"optional\"}]}\n\
+    $used-as$ \"transitional\"}]}\n\
+    $asked-p$\n\
     out 0 refused 88 void at offer .\n\
-    == run\n\
-    @void-offer\n\
-    | \"transitional\"}]}\n\
-    | %%\n\
-    @p-client\n\
-    | \"optional\"}]}\n\
-    | %%\n\
-    @ask-p\n\
-    => 0\n\
+    == $void-offered$ \"transitional\"}]}\n\
+    $used-as$ \"optional\"}]}\n\
+    $asked-p$\n\
     out 0 refused 87 availability-too-weak at offer .\n\
-    == run\n\
-    @void-offer\n\
-    | \"same_as_target\"}]}\n\
-    | %%\n\
-    @p-client\n\
-    | \"optional\"}]}\n\
-    | %%\n\
-    @ask-p\n\
-    => 0\n\
+    == $void-offered$ \"same_as_target\"}]}\n\
+    $used-as$ \"optional\"}]}\n\
+    $asked-p$\n\
     out 0 refused 83 cannot-resolve action 1 invalid 57 offer 0\n\
     == run\n\
     | manifest fuchsia-pkg://t/a#meta/root.cm\n\
@@ -57,22 +37,16 @@ pub const ROUTES: &str = "\
     + \"expose\":[{\"protocol\":\"fuchsia.logger.LogSink\",\"from\":\"self\",\n\
     | \"availability\":\"optional\"}]}\n\
     | %%\n\
-    @client\n\
-    @ask\n\
-    => 0\n\
+    $client-asks$\n\
     out 0 refused 87 availability-too-weak at expose logger\n\
     == run\n\
     @root\n\
     @logger-without-expose\n\
-    @client\n\
-    @ask\n\
-    => 0\n\
+    $client-asks$\n\
     out 0 refused 87 no-expose at expose logger\n\
     == run\n\
     @root\n\
-    @client\n\
-    @ask\n\
-    => 0\n\
+    $client-asks$\n\
     out 0 refused 83 cannot-resolve action 3 absent\n\
     == run\n\
     @root\n\
@@ -126,10 +100,7 @@ pub const ROUTES: &str = "\
     out   logger unresolved\n\
     out   client /svc/fuchsia.logger.LogSink refused 83 cannot-resolve action 3 absent\n\
     == run\n\
-    @root\n\
-    @logger\n\
-    @client\n\
-    @root-line\n\
+    $realm$\n\
     | 0 resolve client\n\
     | 0 doctor .\n\
     | 0 doctor nobody\n\
@@ -171,10 +142,7 @@ pub const ROUTES: &str = "\
     out 0 opened /data at store incarnation 1 rights connect,enumerate,get_attributes,read_bytes,\
     traverse\n\
     == run\n\
-    @root\n\
-    @logger\n\
-    @client\n\
-    @root-line\n\
+    $realm$\n\
     | 0 stop client\n\
     | 0 open client /svc/fuchsia.logger.LogSink\n\
     | 0 route client /svc/x\n\
@@ -207,10 +175,7 @@ pub const ROUTES: &str = "\
     => 0\n\
     out 0 refused 83 cannot-resolve action 2 invalid 31 manifest 0\n\
     == run --journal\n\
-    @root\n\
-    @logger\n\
-    @client\n\
-    @root-line\n\
+    $realm$\n\
     | 0 route client /svc/fuchsia.logger.LogSink\n\
     => 0\n\
     out 0 route /svc/fuchsia.logger.LogSink at logger incarnation 1 through use client, offer ., \
@@ -256,28 +221,18 @@ pub const RIGHTS: &str = "\
     @store-of-data\n\
     | manifest fuchsia-pkg://t/a#c\n\
     | {use:[{path:'/in',directory:'data',rights:['r*']}]}\n\
-    | %%\n\
-    @ask-in\n\
-    => 0\n\
+    $asked-in$\n\
     out 0 route /data at store incarnation 1 rights connect,enumerate,get_attributes,read_bytes,traverse \
     through use client, offer ., expose store, capability store\n\
     == run\n\
-    @offer-of-subdirectory\n\
-    @store-of-subdirectory\n\
-    | manifest fuchsia-pkg://t/a#c\n\
+    $client-of-subdirectory$\n\
     | {use:[{path:'/in',directory:'data',rights:['x*'],subdir:'d'}]}\n\
-    | %%\n\
-    @ask-in\n\
-    => 0\n\
+    $asked-in$\n\
     out 0 refused 87 rights-too-weak at capability store\n\
     == run\n\
-    @offer-of-subdirectory\n\
-    @store-of-subdirectory\n\
-    | manifest fuchsia-pkg://t/a#c\n\
+    $client-of-subdirectory$\n\
     | {use:[{path:'/in',directory:'data',rights:['connect'],subdir:'d'}]}\n\
-    | %%\n\
-    @ask-in\n\
-    => 0\n\
+    $asked-in$\n\
     out 0 route /data/a/b/c/d at store incarnation 1 rights connect through use client, offer ., expose \
     store, capability store\n\
     == run\n\
@@ -286,11 +241,7 @@ pub const RIGHTS: &str = "\
     | {capabilities:[{directory:'data',path:'/data',rights:['rw*']}],expose:[{from:'self',\
     directory:'data',rights:['r*'],availability:'optional'}]}\n\
     | %%\n\
-    | manifest fuchsia-pkg://t/a#c\n\
-    | {use:[{path:'/in',directory:'data',rights:['rw*']}]}\n\
-    | %%\n\
-    @ask-in\n\
-    => 0\n\
+    $data-is-used$\n\
     out 0 refused 87 availability-too-weak at expose store\n\
     == run\n\
     @offer-of-data\n\
@@ -298,11 +249,7 @@ pub const RIGHTS: &str = "\
     | {capabilities:[{directory:'data',path:'/data',rights:['rw*']}],expose:[{from:'self',\
     directory:'data',rights:['r*']}]}\n\
     | %%\n\
-    | manifest fuchsia-pkg://t/a#c\n\
-    | {use:[{path:'/in',directory:'data',rights:['rw*']}]}\n\
-    | %%\n\
-    @ask-in\n\
-    => 0\n\
+    $data-is-used$\n\
     out 0 refused 87 rights-too-weak at expose store\n\
     == run\n\
     | manifest fuchsia-pkg://t/a#meta/root.cm\n\
@@ -312,33 +259,17 @@ pub const RIGHTS: &str = "\
     @store-of-data\n\
     | manifest fuchsia-pkg://t/a#c\n\
     | {use:[{path:'/in',directory:'data',rights:['r*'],availability:'optional'}]}\n\
-    | %%\n\
-    @ask-in\n\
-    => 0\n\
+    $asked-in$\n\
     out 0 refused 88 void at offer .\n\
     == run\n\
-    | manifest fuchsia-pkg://t/a#meta/root.cm\n\
-    | {children:[{name:'store',url:'#s'},{name:'client',url:'#c'}],offer:[{to:'#client',protocol:'data',\
-    from:'parent'}]}\n\
+    $offer-of-protocol$'parent'}]}\n\
     | %%\n\
-    @store-of-data\n\
-    | manifest fuchsia-pkg://t/a#c\n\
-    | {use:[{path:'/in',protocol:'data'}]}\n\
-    | %%\n\
-    @ask-in\n\
-    => 0\n\
+    $protocol-is-used$\n\
     out 0 refused 87 no-builtin at builtin .\n\
     == run\n\
-    | manifest fuchsia-pkg://t/a#meta/root.cm\n\
-    | {children:[{name:'store',url:'#s'},{name:'client',url:'#c'}],offer:[{to:'#client',protocol:'data',\
-    from:'#store'}]}\n\
+    $offer-of-protocol$'#store'}]}\n\
     | %%\n\
-    @store-of-data\n\
-    | manifest fuchsia-pkg://t/a#c\n\
-    | {use:[{path:'/in',protocol:'data'}]}\n\
-    | %%\n\
-    @ask-in\n\
-    => 0\n\
+    $protocol-is-used$\n\
     out 0 refused 87 no-expose at expose store\n";
 
 /// What stands at each hop of a route of which all know how sure they are: less than is given; what is asked,
@@ -348,14 +279,7 @@ pub const RIGHTS: &str = "\
 /// to compare with, and by an availability of its own.
 pub const AVAILABILITY: &str = "\
     == run\n\
-    | manifest fuchsia-pkg://t/a#meta/root.cm\n\
-    | {children:[{name:'store',url:'#s'},{name:'mid',url:'#m'}],offer:[{protocol:'log',from:'#store',\
-    to:'#mid'}]}\n\
-    | %%\n\
-    @store-of-log\n\
-    | manifest fuchsia-pkg://t/a#m\n\
-    | {children:[{name:'client',url:'#c'}],offer:[{protocol:'log',from:'parent',to:'#client',\
-    availability:'optional'}]}\n\
+    $log-through-mid$'optional'}]}\n\
     | %%\n\
     | manifest fuchsia-pkg://t/a#c\n\
     | {use:[{protocol:'log',availability:'transitional'}]}\n\
@@ -365,36 +289,16 @@ pub const AVAILABILITY: &str = "\
     out 0 route /svc/log at store incarnation 1 through use mid/client, offer mid, offer ., expose \
     store, capability store\n\
     == run\n\
-    | manifest fuchsia-pkg://t/a#meta/root.cm\n\
-    | {children:[{name:'store',url:'#s'},{name:'mid',url:'#m'}],offer:[{protocol:'log',from:'#store',\
-    to:'#mid',availability:'same_as_target'}]}\n\
-    | %%\n\
-    | manifest fuchsia-pkg://t/a#s\n\
-    | {capabilities:[{protocol:'log'}],expose:[{protocol:'log',from:'self',availability:'optional'}]}\n\
-    | %%\n\
+    @to-mid-taking-over\n\
+    @optional-log\n\
     @taking-over\n\
-    | manifest fuchsia-pkg://t/a#c\n\
-    | {use:[{protocol:'log',availability:'optional'}]}\n\
-    | %%\n\
-    @ask-log\n\
-    => 0\n\
+    $optional-is-asked$\n\
     out 0 route /svc/log at store incarnation 1 through use mid/client, offer mid, offer ., expose \
     store, capability store\n\
     == run\n\
-    | manifest fuchsia-pkg://t/a#meta/root.cm\n\
-    | {children:[{name:'store',url:'#s'},{name:'mid',url:'#m'}],offer:[{protocol:'log',from:'#store',\
-    to:'#mid'}]}\n\
+    $log-through-mid$'transitional'}]}\n\
     | %%\n\
-    @store-of-log\n\
-    | manifest fuchsia-pkg://t/a#m\n\
-    | {children:[{name:'client',url:'#c'}],offer:[{protocol:'log',from:'parent',to:'#client',\
-    availability:'transitional'}]}\n\
-    | %%\n\
-    | manifest fuchsia-pkg://t/a#c\n\
-    | {use:[{protocol:'log',availability:'optional'}]}\n\
-    | %%\n\
-    @ask-log\n\
-    => 0\n\
+    $optional-is-asked$\n\
     out 0 refused 87 availability-too-weak at offer mid\n\
     == run\n\
     | manifest fuchsia-pkg://t/a#meta/root.cm\n\
@@ -410,64 +314,30 @@ pub const AVAILABILITY: &str = "\
     => 0\n\
     out 0 refused 87 availability-too-weak at offer .\n\
     == run\n\
-    | manifest fuchsia-pkg://t/a#meta/root.cm\n\
-    | {children:[{name:'store',url:'#s'},{name:'mid',url:'#m'}],offer:[{protocol:'log',from:'#store',\
-    to:'#mid',availability:'same_as_target'}]}\n\
-    | %%\n\
+    @to-mid-taking-over\n\
     | manifest fuchsia-pkg://t/a#s\n\
     | {capabilities:[{protocol:'log'}],expose:[{protocol:'log',from:'self',\
     availability:'transitional'}]}\n\
     | %%\n\
     @taking-over\n\
-    | manifest fuchsia-pkg://t/a#c\n\
-    | {use:[{protocol:'log',availability:'optional'}]}\n\
-    | %%\n\
-    @ask-log\n\
-    => 0\n\
+    $optional-is-asked$\n\
     out 0 refused 87 availability-too-weak at expose store\n\
     == run\n\
-    | manifest fuchsia-pkg://t/a#meta/root.cm\n\
-    | {children:[{name:'store',url:'#s'},{name:'mid',url:'#m'}],offer:[{protocol:'log',from:'#store',\
-    to:'#mid'}]}\n\
-    | %%\n\
-    | manifest fuchsia-pkg://t/a#s\n\
-    | {capabilities:[{protocol:'log'}],expose:[{protocol:'log',from:'self',availability:'optional'}]}\n\
-    | %%\n\
+    @to-mid\n\
+    @optional-log\n\
     @taking-over\n\
-    | manifest fuchsia-pkg://t/a#c\n\
-    | {use:[{protocol:'log',availability:'optional'}]}\n\
-    | %%\n\
-    @ask-log\n\
-    => 0\n\
+    $optional-is-asked$\n\
     out 0 refused 87 availability-too-weak at expose store\n\
     == run\n\
-    | manifest fuchsia-pkg://t/a#meta/root.cm\n\
-    | {children:[{name:'a',url:'#a'}]}\n\
-    | %%\n\
-    | manifest fuchsia-pkg://t/a#a\n\
+    $root-of-a$\n\
     | {children:[{name:'b',url:'#b'}],expose:[{protocol:'log',from:'#b',\
     availability:'same_as_target'}]}\n\
     | %%\n\
-    | manifest fuchsia-pkg://t/a#b\n\
-    | {capabilities:[{protocol:'log'}],expose:[{protocol:'log',from:'self',\
-    availability:'transitional'}]}\n\
-    | %%\n\
-    @root-line\n\
-    | 0 open-exposed a log\n\
-    => 0\n\
+    $opened-at-b$\n\
     out 0 opened /svc/log at a/b incarnation 2\n\
     == run\n\
-    | manifest fuchsia-pkg://t/a#meta/root.cm\n\
-    | {children:[{name:'a',url:'#a'}]}\n\
-    | %%\n\
-    | manifest fuchsia-pkg://t/a#a\n\
+    $root-of-a$\n\
     | {children:[{name:'b',url:'#b'}],expose:[{protocol:'log',from:'#b'}]}\n\
     | %%\n\
-    | manifest fuchsia-pkg://t/a#b\n\
-    | {capabilities:[{protocol:'log'}],expose:[{protocol:'log',from:'self',\
-    availability:'transitional'}]}\n\
-    | %%\n\
-    @root-line\n\
-    | 0 open-exposed a log\n\
-    => 0\n\
+    $opened-at-b$\n\
     out 0 refused 87 availability-too-weak at expose a/b\n";

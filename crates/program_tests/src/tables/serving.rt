@@ -7,33 +7,23 @@ pub const SERVING: &str = "\
     == $serve$\n\
     link one\n\
     piece 1\n\
-    | show .\n\
-    | foo\n\
-    | quit\n\
+    $asks$\n\
     => 0\n\
     entries 2\n\
-    sent worker 0\n\
-    sent shown . incarnation 0 url fuchsia-pkg://t/a#meta/root.cm unresolved off\n\
-    sent refused 70 bad-command at 0\n\
-    == serve s --root fuchsia-pkg://t/a#meta/root.cm --repo r --workers 1 --sessions 2\n\
+    $shown-and-refused$\n\
+    == $serve$ --sessions 2\n\
     link one\n\
     piece 1\n\
     write 2\n\
-    | show .\n\
-    | foo\n\
-    | quit\n\
+    $asks$\n\
     link other\n\
-    | show .\n\
-    | foo\n\
-    | quit\n\
+    $asks$\n\
     | show .\n\
     => 0\n\
     sent worker 0 write-faults 1\n\
     sent+ sh\n\
-    sent worker 0\n\
-    sent shown . incarnation 0 url fuchsia-pkg://t/a#meta/root.cm unresolved off\n\
-    sent refused 70 bad-command at 0\n\
-    == serve s --root fuchsia-pkg://t/a#meta/root.cm --repo r --workers 1 --sessions 2\n\
+    $shown-and-refused$\n\
+    == $serve$ --sessions 2\n\
     link one\n\
     piece 7\n\
     read 1\n\
@@ -44,11 +34,11 @@ pub const SERVING: &str = "\
     + show .\n\
     => 0\n\
     sent worker 0 read-faults 1\n\
-    sent shown . incarnation 0 url fuchsia-pkg://t/a#meta/root.cm unresolved off\n\
+    $shown$\n\
     sent worker 0\n\
     sent refused 70 bad-command at 0\n\
-    sent shown . incarnation 0 url fuchsia-pkg://t/a#meta/root.cm unresolved off\n\
-    == serve s --root fuchsia-pkg://t/a#meta/root.cm --repo r --workers 1 --sessions 2\n\
+    $shown$\n\
+    == $serve$ --sessions 2\n\
     link one\n\
     fill 97 65537\n\
     | \n\
@@ -61,7 +51,7 @@ pub const SERVING: &str = "\
     => 0\n\
     sent worker 0\n\
     sent refused 75 line-too-long\n\
-    sent shown . incarnation 0 url fuchsia-pkg://t/a#meta/root.cm unresolved off\n\
+    $shown$\n\
     sent worker 0\n\
     sent refused 70 bad-command at 0\n\
     sent refused 70 bad-command at 0\n\
@@ -69,10 +59,7 @@ pub const SERVING: &str = "\
     door 0\n\
     link one\n\
     | show .\n\
-    => 5\n\
-    door-faults 1\n\
-    entries 0\n\
-    err door fault\n\
+    $no-door$\n\
     == $serve$\n\
     door 0\n\
     say 0\n\
@@ -86,11 +73,8 @@ pub const SERVING: &str = "\
     door 1\n\
     link one\n\
     | show .\n\
-    => 5\n\
-    door-faults 1\n\
-    entries 0\n\
-    err door fault\n\
-    == serve s --root fuchsia-pkg://t/a#meta/root.cm --repo r --workers 1 --sessions 2\n\
+    $no-door$\n\
+    == $serve$ --sessions 2\n\
     door 2\n\
     link one\n\
     | show .\n\
@@ -101,23 +85,17 @@ pub const SERVING: &str = "\
     entries 2\n\
     err door fault\n\
     sent worker 0\n\
-    sent shown . incarnation 0 url fuchsia-pkg://t/a#meta/root.cm unresolved off\n\
-    == serve s --root fuchsia-pkg://t/a#meta/root.cm --repo r --workers 1 --sessions 3\n\
+    $shown$\n\
+    == $serve$ --sessions 3\n\
     link one\n\
     | show .\n\
-    => 0\n\
-    entries 2\n\
-    sent worker 0\n\
-    sent shown . incarnation 0 url fuchsia-pkg://t/a#meta/root.cm unresolved off\n\
+    $served$\n\
     == $serve$\n\
     link one\n\
     | show .\n\
     link other\n\
     | show .\n\
-    => 0\n\
-    entries 2\n\
-    sent worker 0\n\
-    sent shown . incarnation 0 url fuchsia-pkg://t/a#meta/root.cm unresolved off\n\
+    $served$\n\
     == $serve$\n\
     link one\n\
     => 0\n\
@@ -271,10 +249,7 @@ pub const SERVING: &str = "\
     $unserved$\n\
     == serve s --root fuchsia-pkg://t/a#meta/root.cm --repo r --sessions 4096 --workers 16\n\
     door 0\n\
-    => 5\n\
-    door-faults 1\n\
-    entries 0\n\
-    err door fault\n\
+    $no-door$\n\
     == run\n\
     @root-line\n\
     | 0 show .\n\

@@ -1,7 +1,7 @@
 //! The tables of the readers, played one after another.
 
-use crate::cases;
-use crate::player::odd_cases;
+use super::cases;
+use super::player::odd_cases;
 use cm_command::ScriptNumber;
 use std::test::Fail;
 

@@ -1,6 +1,6 @@
 //! URLs are made absolute, and a repository keeps blocks under them.
 
-use crate::readers::{fault, shown};
+use super::readers::{fault, shown};
 use cm_names::{Bytes, Memory, Text};
 use cm_repo::*;
 use std::alloc::Global;

@@ -1,6 +1,6 @@
 //! Values that no text reads or that take several: words, lists, monikers and sections.
 
-use crate::readers::shown;
+use super::readers::shown;
 use cm_decl::Node;
 use cm_names::*;
 use std::alloc::Global;

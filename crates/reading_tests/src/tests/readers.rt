@@ -1,8 +1,8 @@
 //! Readers of texts, each as a function from a text to what it makes of it, as a text. They give
 //! nothing where a case can't be read, or where memory runs out.
 
-use crate::rights::rights;
-use crate::{repositories, values};
+use super::rights::rights;
+use super::{repositories, values};
 use cm_command::{Command, CommandFault, read_command, read_moniker, read_number, write_command};
 use cm_names::{CapPath, Moniker, Name, SubDir, Text};
 use cm_text::to_json;
@@ -163,12 +163,12 @@ fn is_settled(alloc: Global, line: &str) -> bool {
     }
 }
 
-/// What a reader tells of a large text, of which lines tell the reader and how often one text
-/// stands in the middle, what stands in front, the text, and what stands after.
+/// What a reader tells of a large text: first come the reader and how often one text stands in the middle,
+/// then what stands in front, the text, and what stands after, with a bar after each of the first two.
 fn many(alloc: Global, input: &str) -> Option<Text> {
-    let (head, rest) = input.split_once('\n')?;
-    let (reader, times) = head.split_once(' ')?;
-    match repeated(alloc, times.parse().ok()?, rest) {
+    let (reader, rest) = input.split_once(' ')?;
+    let (times, parts) = rest.split_once(' ')?;
+    match repeated(alloc, times.parse().ok()?, parts) {
         Some(whole) => told_of_whole(alloc, reader, whole.as_str()),
         None => None,
     }
@@ -182,10 +182,10 @@ fn told_of_whole(alloc: Global, reader: &str, whole: &str) -> Option<Text> {
     }
 }
 
-/// So many times the text of the second line, between those of the first and of all others.
-fn repeated(alloc: Global, times: usize, lines: &str) -> Option<Text> {
-    let (prefix, rest) = lines.split_once('\n')?;
-    let (text, end) = rest.split_once('\n')?;
+/// So many times the text between two bars, between what stands in front of them and after them.
+fn repeated(alloc: Global, times: usize, parts: &str) -> Option<Text> {
+    let (prefix, rest) = parts.split_once('|')?;
+    let (text, end) = rest.split_once('|')?;
     let mut whole = Text::from_str(alloc, prefix).ok()?;
     for _ in 0..times {
         whole.push_str(text).ok()?;

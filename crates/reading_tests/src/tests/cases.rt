@@ -281,115 +281,50 @@ pub const COMMANDS: &str = "\
     == moniker-word a//b\n\
     => fault Bad(3)\n";
 
-/// The limits of lengths, just kept and just passed; of a long text the number of its bytes.
+/// The limits of lengths, just kept and just passed; of a long text the number of its bytes. Between the two
+/// bars stands what is repeated.
 pub const LARGE: &str = "\
-    == many name 255\n\
-    \n\
-    a\n\
-    \n\
+    == many name 255 |a|\n\
     => 255 bytes\n\
-    == many name 256\n\
-    \n\
-    a\n\
-    \n\
+    == many name 256 |a|\n\
     => fault TooLong\n\
-    == many path 4095\n\
-    /\n\
-    a\n\
-    \n\
+    == many path 4095 /|a|\n\
     => 4096 bytes\n\
-    == many path 4096\n\
-    /\n\
-    a\n\
-    \n\
+    == many path 4096 /|a|\n\
     => fault TooLong\n\
-    == many moniker 255\n\
-    \n\
-    a\n\
-    \n\
+    == many moniker 255 |a|\n\
     => 255 bytes\n\
-    == many moniker 256\n\
-    \n\
-    a\n\
-    \n\
+    == many moniker 256 |a|\n\
     => fault BadMoniker(255)\n\
-    == many moniker 2047\n\
-    \n\
-    a/\n\
-    aa\n\
+    == many moniker 2047 |a/|aa\n\
     => 4096 bytes\n\
-    == many moniker 2048\n\
-    \n\
-    a/\n\
-    \n\
+    == many moniker 2048 |a/|\n\
     => fault BadMoniker(4095)\n\
-    == many moniker 2048\n\
-    \n\
-    a/\n\
-    a\n\
+    == many moniker 2048 |a/|a\n\
     => fault TooLong\n\
-    == many json 1048576\n\
-    \n\
-    [\n\
-    \n\
+    == many json 1048576 |[|\n\
     => 2097151 bytes\n\
-    == many url 4078\n\
-    fuchsia-pkg://t/\n\
-    a\n\
-    #x\n\
+    == many url 4078 fuchsia-pkg://t/|a|#x\n\
     => 4096 bytes\n\
-    == many url 4079\n\
-    fuchsia-pkg://t/\n\
-    a\n\
-    #x\n\
+    == many url 4079 fuchsia-pkg://t/|a|#x\n\
     => bad URL\n\
-    == many url 1019\n\
-    fuchsia-pkg://t/\n\
-    \x20b\n\
-    #x\n\
+    == many url 1019 fuchsia-pkg://t/| b|#x\n\
     => 4094 bytes\n\
-    == many url 1020\n\
-    fuchsia-pkg://t/\n\
-    \x20b\n\
-    #x\n\
+    == many url 1020 fuchsia-pkg://t/| b|#x\n\
     => bad URL\n\
-    == many block 4078\n\
-    fuchsia-pkg://t/\n\
-    a\n\
-    #x\n\
+    == many block 4078 fuchsia-pkg://t/|a|#x\n\
     => added\n\
-    == many block 4079\n\
-    fuchsia-pkg://t/\n\
-    a\n\
-    #x\n\
+    == many block 4079 fuchsia-pkg://t/|a|#x\n\
     => fault BadUrl\n\
-    == many block 1019\n\
-    fuchsia-pkg://t/\n\
-    \x20b\n\
-    #x\n\
+    == many block 1019 fuchsia-pkg://t/| b|#x\n\
     => added\n\
-    == many block 1020\n\
-    fuchsia-pkg://t/\n\
-    \x20b\n\
-    #x\n\
+    == many block 1020 fuchsia-pkg://t/| b|#x\n\
     => fault BadUrl\n\
-    == many command 255\n\
-    list . \n\
-    a\n\
-    \n\
+    == many command 255 list . |a|\n\
     => 262 bytes\n\
-    == many command 4095\n\
-    open . /\n\
-    a\n\
-    \n\
+    == many command 4095 open . /|a|\n\
     => 4103 bytes\n\
-    == many command 4093\n\
-    open . /\n\
-    a\n\
-    /a\n\
+    == many command 4093 open . /|a|/a\n\
     => 4103 bytes\n\
-    == many command 4096\n\
-    create . c n \n\
-    a\n\
-    \n\
+    == many command 4096 create . c n |a|\n\
     => 4109 bytes\n";

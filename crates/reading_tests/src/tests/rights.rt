@@ -1,6 +1,6 @@
 //! Rights: words are read and written, or have their first fault.
 
-use crate::readers::fault;
+use super::readers::fault;
 use cm_names::{List, Rights, Text};
 use std::alloc::Global;
 

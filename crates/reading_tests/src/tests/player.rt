@@ -4,9 +4,10 @@
 //! A case begins with `== `, the word of its reader and a space. Then comes what is read, which may
 //! have several lines, and after `=> ` at the head of a line what is told of it.
 
-use crate::readers::told;
+use super::readers::told;
 use cm_names::{Memory, Text};
 use std::alloc::Global;
+use std::test::Fail;
 
 /// The cases that tell something else, or that can't be read: each, and after it what it tells.
 pub fn odd_cases(alloc: Global, table: &str) -> Result<Text, Memory> {
@@ -77,17 +78,12 @@ const ODD: &str = "\
     == name e\n\
     can't be read\n";
 
-/// Whether this is told of the odd cases of a table.
-fn is_told(alloc: Global, table: &str, wanted: &str) -> bool {
-    match odd_cases(alloc, table) {
-        Ok(odd) => odd.as_str() == wanted,
-        Err(_) => false,
-    }
-}
-
 /// The player finds a case that is told otherwise, and one that can't be read.
 #[test]
-fn finds_wrong_cases(rt: HostRuntime) {
-    assert!(rt; is_told(rt.alloc(), WRONG, ODD));
-    assert!(rt; is_told(rt.alloc(), "no case", "== no casecan't be read\n"));
+fn finds_wrong_cases(rt: HostRuntime) -> Result<(), Fail> {
+    let odd = odd_cases(rt.alloc(), WRONG)?;
+    assert!(rt; odd.as_str() == ODD, "{odd}");
+    let odd = odd_cases(rt.alloc(), "no case")?;
+    assert!(rt; odd.as_str() == "== no casecan't be read\n", "{odd}");
+    Ok(())
 }
