@@ -1,7 +1,7 @@
 //! Laws of verdicts.
 //!
-//! These functions do nothing: what each of them promises is a fact about journals, which its proof
-//! shows.
+//! These functions do nothing, and no code calls them: what each of them promises is a fact about
+//! journals, which its proof shows.
 
 ghost use Rattle.cm_audit.specs.Laws.{PrefixesTell, IncarnationsFit, OneVerdict};
 ghost use Rattle.cm_audit.specs.Laws.{TextsTellReplies};

@@ -1,7 +1,7 @@
 //! Laws of what a cache and a history keep.
 //!
-//! These functions do nothing: what each of them promises is a fact about the definitions in
-//! `specs/`, which its proof shows.
+//! These functions do nothing, and no code calls them: what each of them promises is a fact about the
+//! definitions in `specs/`, which its proof shows.
 
 ghost use Rattle.cm_cache.specs.Laws as laws;
 ghost use Rattle.cm_cache.specs.Steps as steps;

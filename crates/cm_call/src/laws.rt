@@ -1,9 +1,11 @@
-//! Small workloads.
+//! A law of workloads.
+//!
+//! The function does nothing and no code calls it: it promises examples, which its proof computes.
 
 ghost use Rattle.cm_call.specs.GeneratedExamples.{DrawsExample, KidsExample};
 ghost use Rattle.cm_call.specs.GeneratedExamples.{MonikerExample, UrlExample};
 
-/// What a workload is made of, computed at small numbers. It does nothing.
+/// At small numbers: which instances are drawn, the children of one, its moniker and its URL.
 pub fn small_workloads()
     ensures draws { DrawsExample }
     ensures kids { KidsExample }

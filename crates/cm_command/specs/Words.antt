@@ -28,7 +28,7 @@ abbrev pub IsTargetText : List ℕ → Target → Type 0
 IsTargetText t (Named m) = IsMonikerTextOf t m × (length t ≤ 4096)
 IsTargetText t (Inc n) = (digits : List ℕ) × (t ≡ 64 ∷ digits) × IsNumberText digits n × (n < 2 ^ 64)
 
--- the word names this source: `parent`, `self`, `framework`, `void`, or `#` and the name of a child
+-- the word of a `create` names this source: `parent`, `self`, `framework`, `void`, or `#` and a child's name
 abbrev pub IsOriginText : List ℕ → Origin → Type 0
 IsOriginText t Parent = t ≡ codes "parent"
 IsOriginText t Own = t ≡ codes "self"

@@ -1,7 +1,7 @@
 //! Laws of scripts.
 //!
-//! These functions do nothing: what each of them promises is a fact about scripts, which its proof
-//! shows.
+//! These functions do nothing, and no code calls them: what each of them promises is a fact about
+//! scripts, which its proof shows.
 
 ghost use Rattle.cm_command.specs.Laws.{ScriptsHaveNoFault, TextsAreOneScript};
 

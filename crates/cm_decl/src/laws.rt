@@ -1,7 +1,7 @@
 //! Laws of the definitions, and short declarations with their faults.
 //!
-//! These functions do nothing: what each of them promises is a fact about the definitions in
-//! `specs/`, which its proof shows.
+//! These functions do nothing, and no code calls them: what each of them promises is a fact about the
+//! definitions in `specs/`, which its proof shows.
 
 ghost use Rattle.std.specs.Prelude.{◌≡◌, Some, None, [], ◌∷◌, Bool, true, false, List as Seq};
 ghost use Rattle.cm_names.specs.declared.availability.Availability.TheVariants as availability;

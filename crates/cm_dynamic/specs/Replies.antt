@@ -39,8 +39,8 @@ AnswersCreate rows free p coll name gives answer =
     (limit next : ℕ) → TellsRoom limit rows next free
     → IsCreateReply limit rows next p coll name gives (create_reply next answer)
 
--- an answer means the defined reply to a create whose names and offers are right, so that only the
--- realm graph and the room are left to decide
+-- an answer means the defined reply to a create whose names and offers are right, so that only the realm
+-- graph and the room are left to decide; `by_graph` and `by_room` of `create.rt` promise it
 abbrev pub AnswersGraph : Decl → List DynChild → ℕ → MayCreate → Type 0
 AnswersGraph d dynamic free answer =
     (limit next : ℕ) (rows : List Row) → TellsRoom limit rows next free

@@ -12,7 +12,8 @@ pub fn each_room_is_of_some_limit()
 {}
 
 /// Where [`may_create_acyclic`](crate::may_create_acyclic) answers `Yes`, the parent is resolved and
-/// has no child of that name that isn't being destroyed: so the tree can take the child's row.
+/// has no child of that name that isn't being destroyed: so the tree can take the child's row. `cm_steps`
+/// calls it, for this fact, where it answers a create.
 pub fn parents_can_take()
     ensures { laws.ParentsCanTake }
 {}

@@ -1,4 +1,6 @@
 //! A law of journals that are kept.
+//!
+//! The function does nothing and no code calls it: what it promises is a fact, which its proof shows.
 
 ghost use Rattle.cm_keep.specs.Keeping.{LimitsAreUntold};
 

@@ -1,5 +1,5 @@
 -- Inside.
--- The laws of destroying, as statements of every legal history.
+-- The laws of destroying, as statements of every legal history: the promise of `the_destroyed_stay_gone`.
 use Rattle.std.specs.Prelude.{ℕ}
 use Rattle.std.specs.Prelude.{List}
 use Rattle.cm_world.specs.declared.frame.Frame.{Frame}

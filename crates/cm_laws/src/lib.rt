@@ -3,9 +3,10 @@
 //!
 //! A history is a list of entries, and it is legal where the tree that the entries before it leave
 //! allows each entry. The functions of this crate do nothing: what each of them promises is a fact
-//! about such histories, which its proof shows. Callers that begin an action or mark an instance
-//! in one turn and go on in another need [`beginners_end`], [`joiners_await`], [`pickers_end`],
-//! [`marks_stay`] and [`shutdowns_last`]; the others say what holds of a legal history as a whole.
+//! about such histories, which its proof shows. `cm_steps` calls [`trees_stay_sound`] in its steps, and
+//! `cm_manager` calls [`marks_stay`], [`shutdowns_last`], [`reaps_marked`], [`pickers_end`] and
+//! [`outcomes_are_one`] for what it saw in earlier turns; its proofs use the lemmas of [`beginners_end`] and
+//! [`joiners_await`]. No code calls the others, which say what holds of a legal history as a whole.
 //!
 //! The definitions of events, replies and histories are those of `cm_world`.
 #![tactic(auto)]

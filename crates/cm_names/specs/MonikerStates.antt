@@ -8,7 +8,7 @@ use Rattle.cm_names.specs.declared.grammar.MonikerState.TheVariants.{Start, Whol
 use Rattle.cm_names.specs.declared.grammar.MonikerState.TheVariants.{Second}
 use Rattle.cm_names.specs.Name.{begins_name, continues_name}
 
--- the state after one more byte, where n bytes of a name were read; `place` makes the state of a name
+-- the state after byte b, for `next`, where n bytes of a name were read: `place` is `First` or `Second`
 abbrev pub in_name : (ℕ → MonikerState) → ℕ → ℕ → Option MonikerState
 in_name place n b =
     if b == 47 then Some Part else if continues_name b && nat_lt n 255 then Some (place (n + 1)) else None

@@ -1,9 +1,9 @@
 -- Promised.
--- How far a text can still become a text of some kind. Faults tell it as the place where a text goes
--- wrong.
+-- How far a text can still become a text of some kind. A fault's number is this length (`IsLongestPrefix`),
+-- for monikers as for commands.
 use Rattle.std.specs.Prelude.{ℕ, ◌+◌, ◌<◌, ◌≤◌, List, ◌++◌, length, take}
 
--- some text of the kind begins with this text
+-- some text of the kind P begins with this text: by this a longest prefix and counts of prefixes are defined
 abbrev pub HasCompletion : (List ℕ → Type 0) → List ℕ → Type 0
 HasCompletion P t = (rest : List ℕ) × P (t ++ rest)
 

@@ -19,8 +19,9 @@ use cm_world::View;
 use std::alloc::Global;
 use std::collections::BTreeSet;
 
-/// Whether a child is free and may have something to be shut at or below it: no clause says that there
-/// is. One that is free and all shut is cleared, if another waits for it.
+/// Whether a child is free and may have something to be shut at or below it; no clause says that there is.
+/// One that is free and all shut is cleared, if another waits for it. `glance.rt` asks it of each child that
+/// it comes to.
 pub(crate) fn is_open<V: View>(
     alloc: Global,
     view: &V,
@@ -43,8 +44,8 @@ pub(crate) fn is_open<V: View>(
     Ok(false)
 }
 
-/// Whether a child is free, once nodes that depend on it and are all shut are cleared. `false` says
-/// nothing.
+/// Clears the nodes that depend on a child and are all shut, from the last one on, and tells whether the
+/// child is free then. `false` says nothing. `leading.rt` asks it.
 pub(crate) fn becomes_free<V: View>(
     alloc: Global,
     view: &V,
@@ -69,7 +70,8 @@ pub(crate) fn becomes_free<V: View>(
     Ok(false)
 }
 
-/// Whether a node is known to be cleared, or is a free child that is all shut. `false` says nothing.
+/// Whether a node is cleared, so that no child waits for it any more: it was before, or it is cleared here as
+/// a free child that is all shut. `false` says nothing.
 fn is_cleared<V: View>(
     alloc: Global,
     view: &V,
@@ -92,7 +94,8 @@ fn is_cleared<V: View>(
     Ok(known.cleared.contains(&node))
 }
 
-/// Whether an instance is a child of the other, and free at its level, as far as that is known.
+/// Whether an instance is a child of the other, and free at its level, as far as that is known. `false` says
+/// nothing, and nothing is cleared.
 pub(crate) fn is_free_child<V: View>(view: &V, known: &Dependents, parent: u64, child: u64) -> bool
     requires sound { IsSound (V.rows view.now) (V.next_inc view.now) }
     requires known { KnowsDependents (V.rows view.now) parent known.now }
@@ -104,7 +107,7 @@ pub(crate) fn is_free_child<V: View>(view: &V, known: &Dependents, parent: u64, 
     known.is_free(child)
 }
 
-/// Whether an instance is a child of the other.
+/// Whether an instance is a child of the other. `binding.rt` asks it before it looks for a dependency.
 pub(crate) fn is_child<V: View>(view: &V, parent: u64, child: u64) -> bool
     ensures { IsTrue result → IsKid (V.rows view.now) parent child }
 {
@@ -129,7 +132,8 @@ fn is_left<V: View>(alloc: Global, view: &V, inc: u64) -> Result<bool, Memory> {
     Ok(false)
 }
 
-/// Whether an instance strongly uses something of a child.
+/// Whether an instance strongly uses something of a child of its own; `false` where it isn't resolved.
+/// `leading.rt` asks it of an instance with a child that isn't all shut.
 pub(crate) fn uses_child<V: View>(view: &V, inc: u64) -> bool
     ensures { result ≡ option_map_or (λ d. list_any (λ u. is_strong u.dependency &&
         is_from_child u.from) d.uses) (decl_of (V.rows view.now) inc) false }

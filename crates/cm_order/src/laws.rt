@@ -1,7 +1,7 @@
 //! Laws of shutdowns.
 //!
-//! These functions do nothing: what each of them promises is a fact about the definitions that
-//! the contract of [`pick`](crate::pick) cites, which its proof shows.
+//! These functions do nothing, and no code calls them: what each of them promises is a fact about the
+//! definitions that the contract of [`pick`](crate::pick) cites, which its proof shows.
 
 ghost use Rattle.cm_order.specs.LawsInside.{HasNoDeadEnd};
 

@@ -251,7 +251,7 @@ fn push_children(text: &mut String, command: &Command, kids: &[Kid]) -> Result<(
     push_counted(text, kids)
 }
 
-/// Puts the number of the instance and its URL at the end.
+/// Puts ` incarnation INC url URL` at the end, of the instance that `show` tells of.
 fn push_url(text: &mut String, look: &Look) -> Result<(), Memory>
     ensures { OnOk result (GainsText text.old text.new
         (incarnation_text look.now.inc ++ (codes " url " ++ look.now.url))) }

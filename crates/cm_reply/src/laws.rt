@@ -1,7 +1,7 @@
 //! How a journal grows and is read back, and texts that are written out.
 //!
-//! These functions do nothing: what each of them promises is a fact about the definitions in
-//! `specs/`, which its proof shows.
+//! These functions do nothing, and no code calls them: what each of them promises is a fact about the
+//! definitions in `specs/`, which its proof shows.
 
 ghost use Rattle.cm_reply.specs.Laws as laws;
 ghost use Rattle.cm_reply.specs.LinesInside.{EntriesReadOneWay};

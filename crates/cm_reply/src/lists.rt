@@ -21,7 +21,8 @@ pub fn roomy(alloc: Global) -> Result<String, Memory>
     Ok(String::with_capacity(alloc, FIRST_ROOM)?)
 }
 
-/// What stands in a list that is written.
+/// What stands in a list that is written: a line of an answer, an item of a journal's reply, or a part of a
+/// route or moniker. The functions on lists (`push_each` and others) ask each for its text.
 pub trait ListItem {
     ghost use Rattle.std.specs.Prelude.{List as Seq, ℕ, OnOk};
     ghost use Rattle.cm_reply.specs.ListsInside.{GainsText};
@@ -122,8 +123,8 @@ pub fn push_each<T: ListItem>(text: &mut String, mark: &str, items: &[T]) -> Res
     Ok(())
 }
 
-/// Puts the text of each item, after a space and between brackets, at the end. `Err` where
-/// memory runs out.
+/// Puts the text of each item, after a space and between brackets, at the end: so a journal's replies
+/// `listed` and `surveyed` are written. `Err` where memory runs out.
 pub fn push_bracketed<T: ListItem>(text: &mut String, items: &[T]) -> Result<(), Memory>
     ensures { OnOk result (GainsText text.old text.new (spec.bracketed T.written items.now)) }
 {

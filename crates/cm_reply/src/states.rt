@@ -117,7 +117,8 @@ impl ListItem for SurveyRow {
 
     ghost written = { survey_text };
 
-    /// A line of a survey: the moniker, the incarnation, and how the instance is.
+    /// A line of the answer to `survey`, and an item of the journal's reply `surveyed`: the moniker, the
+    /// incarnation, and how the instance is.
     fn push_to(&self, text: &mut String) -> Result<(), Memory> {
         push_moniker(text, &self.moniker)?;
         push_incarnation(text, self.inc)?;
@@ -144,7 +145,8 @@ impl ListItem for Happening {
 
     ghost written = { happening_text };
 
-    /// A line of `events`: the entry's number, what happened, and to which instance.
+    /// A line of the answer to `events`, which journals don't have: the entry's number, what happened, and
+    /// to which instance.
     fn push_to(&self, text: &mut String) -> Result<(), Memory> {
         push_value(text, self.number)?;
         push(text, happen_word(self.kind))?;
@@ -159,7 +161,8 @@ impl ListItem for Kid {
 
     ghost written = { kid_text };
 
-    /// A line of `list`: the child's name and its incarnation.
+    /// A line of the answer to `list`, and an item of the journal's reply `listed`: the child's name and its
+    /// incarnation.
     fn push_to(&self, text: &mut String) -> Result<(), Memory> {
         push(text, self.name.as_str())?;
         push_incarnation(text, self.inc)

@@ -1,4 +1,4 @@
-//! Words, and what belongs to them.
+//! Words with numbers after them, as answers and journals have them.
 
 ghost use Rattle.std.specs.Prelude.{◌++◌, codes, decimal, OnOk};
 ghost use Rattle.cm_reply.specs.ListsInside.{GainsText};
@@ -7,14 +7,14 @@ ghost use Rattle.cm_reply.specs.States.{incarnation_text};
 use crate::lists::push_value;
 use cm_names::Memory;
 
-/// Puts the words and the number at the end. `Err` where memory runs out.
+/// Puts `WORDS NUMBER` at the end; a space before the words is part of them. `Err` where memory runs out.
 pub fn push_number(text: &mut String, words: &str, number: u64) -> Result<(), Memory>
     ensures { OnOk result (GainsText text.old text.new (words.now ++ (codes " " ++ decimal number))) }
 {
     push_value(text, format_args!("{words} {number}"))
 }
 
-/// Puts the words and two numbers at the end. `Err` where memory runs out.
+/// Puts `WORDS FIRST SECOND` at the end, for an event or a reply in a journal. `Err` where memory runs out.
 pub fn push_numbers(text: &mut String, words: &str, first: u64, second: u64) -> Result<(), Memory>
     ensures { OnOk result (GainsText text.old text.new (words.now ++ (codes " " ++ (decimal first
         ++ (codes " " ++ decimal second))))) }
@@ -22,7 +22,8 @@ pub fn push_numbers(text: &mut String, words: &str, first: u64, second: u64) -> 
     push_value(text, format_args!("{words} {first} {second}"))
 }
 
-/// Puts the words, a number and further words at the end. `Err` where memory runs out.
+/// Puts `WORDS NUMBER NOTE` at the end, for an event in a journal that names an instance and a path or a name
+/// there. `Err` where memory runs out.
 pub fn push_noted(text: &mut String, words: &str, number: u64, note: &str) -> Result<(), Memory>
     ensures { OnOk result (GainsText text.old text.new (words.now ++ (codes " " ++ (decimal number
         ++ (codes " " ++ note.now))))) }
@@ -30,7 +31,8 @@ pub fn push_noted(text: &mut String, words: &str, number: u64, note: &str) -> Re
     push_value(text, format_args!("{words} {number} {note}"))
 }
 
-/// Puts the number of an instance at the end. `Err` where memory runs out.
+/// Puts ` incarnation INC` at the end: after an instance's moniker or name, in answers, routes and lists.
+/// `Err` where memory runs out.
 pub fn push_incarnation(text: &mut String, inc: u64) -> Result<(), Memory>
     ensures { OnOk result (GainsText text.old text.new (incarnation_text inc)) }
 {

@@ -9,8 +9,8 @@ use cm_walk::hop::parent;
 use cm_world::View;
 use std::alloc::Global;
 
-/// Goes on to an instance: leaves those that it doesn't stand below, and puts it last, if it lives
-/// and is resolved.
+/// Makes an instance, the parent of the next one told of, the last of those at hand, if it lives and is
+/// resolved; those that it doesn't stand below are dropped. `report.rt` calls it before it tells of a child.
 pub(crate) fn come_to<'a, V: View>(
     alloc: Global,
     view: &'a V,

@@ -37,7 +37,8 @@ pub(crate) struct ToldRow<'a> {
     pub(crate) decl: &'a Decl,
 }
 
-/// Puts the line of each use of a child at the end.
+/// Puts the line of each storage that a child uses at the end, by what its parent `top` hands on. `report.rt`
+/// calls it where that parent is at hand.
 pub(crate) fn push_child_uses<'a, V: View>(
     alloc: Global,
     view: &'a V,
@@ -61,7 +62,7 @@ pub(crate) fn push_child_uses<'a, V: View>(
     Ok(())
 }
 
-/// Puts the line of a use of a child at the end.
+/// Puts the line of one storage that a child uses at the end.
 fn push_child_use<'a, V: View>(
     alloc: Global,
     view: &'a V,

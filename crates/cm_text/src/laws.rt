@@ -1,4 +1,4 @@
-//! What holds of the tokens and faults of every text, as functions with empty bodies.
+//! What holds of the tokens and faults of every text, as functions with empty bodies, which no code calls.
 
 ghost use Rattle.cm_text.specs.Facts.{FaultsAreComputed, FaultsAreUnique, TextsAreCovered, TokensAreComputed};
 ghost use Rattle.cm_text.specs.Facts.{TokensAreUnique, TokensExcludeFaults};

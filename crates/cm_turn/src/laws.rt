@@ -1,8 +1,8 @@
-//! What holds between any two steps of any callers, as laws. These functions do nothing: what each
-//! promises is a fact about the lock's table, which its proof shows. In each, `f` is the lock's frame,
-//! `log` is the history at one moment, and `s` is what the lock's table has at that moment: its two
-//! words, what is at home in its slot, and the views of all seats. A seat is one thread's place at the
-//! table; the maker is the seat that makes the passes.
+//! What holds between any two steps of any callers, as laws. These functions do nothing, and no code calls
+//! them: what each promises is a fact about the lock's table, which its proof shows. In each, `f` is the
+//! lock's frame, `log` is the history at one moment, and `s` is what the lock's table has at that moment:
+//! its two words, what is at home in its slot, and the views of all seats. A seat is one thread's place at
+//! the table; the maker is the seat that makes the passes.
 ghost use Rattle.cm_turn.specs.Laws.{Always, OneTurn, OneCaller, CallersAreMade, OnlyCallersWait, OneTicket};
 ghost use Rattle.cm_turn.specs.Laws.{CountsTickets, TicketsFollow, AllAreHeld, OneFrame, HomeFrame};
 ghost use Rattle.cm_turn.specs.Laws.{SeenBegins, OutOnlyInTurn, OutInTurn, HomeIsHistory, TurnHasSeenAll};
