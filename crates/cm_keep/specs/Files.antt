@@ -1,14 +1,19 @@
 -- Inside.
 -- What it means that a journal stands in a file.
-use Rattle.std.specs.Prelude.{◌≡◌, ◌≢◌, ℕ, List, [], Option}
+use Rattle.std.specs.Prelude.{◌≡◌, ◌≢◌, ℕ, List, [], ◌++◌, codes, decimal, Option}
 use Rattle.std.specs.Io.KnownBytes.{Appends}
 use Rattle.cm_world.specs.declared.reply.Entry.{Entry}
 use Rattle.cm_reply.specs.Lists.{TextBytes}
 
--- all bytes of a text were written into a new file, which reached the disk and got this name then
+-- the name of the new file of a journal: its place, the number of the process and `.new`, with dots between
+abbrev pub beside_name : TextBytes → ℕ → TextBytes
+beside_name place number = place ++ (codes "." ++ (decimal number ++ codes ".new"))
+
+-- all bytes of a text were written into a new file of the first name, which reached the disk and got the
+-- second one then
 pub record StandsAt {D : Type 0} (contents : D → Option TextBytes) (created : TextBytes → D → Type 0)
-    (synced : D → Type 0) (renamed : TextBytes → TextBytes → Type 0) (name text : TextBytes) : Type 0 where
-  pub beside : TextBytes
+    (synced : D → Type 0) (renamed : TextBytes → TextBytes → Type 0) (beside name text : TextBytes)
+    : Type 0 where
   pub empty : D
   pub whole : D
   pub creates : created beside empty
@@ -20,6 +25,6 @@ pub record StandsAt {D : Type 0} (contents : D → Option TextBytes) (created : 
 abbrev pub NeverBegan : ℕ → List Entry → Type 0
 NeverBegan status history = (status ≢ 0) × (history ≡ [])
 
--- a new file was made under some name, and it was asked for that nothing has that name any more
-abbrev pub IsTried : {D : Type 0} → (TextBytes → D → Type 0) → (TextBytes → Type 0) → Type 0
-IsTried {D} created unnamed = (beside : TextBytes) × (file : D) × created beside file × unnamed beside
+-- a new file of this name was made, and it was asked for that nothing has that name any more
+abbrev pub IsTried : {D : Type 0} → (TextBytes → D → Type 0) → (TextBytes → Type 0) → TextBytes → Type 0
+IsTried {D} created unnamed beside = (file : D) × created beside file × unnamed beside

@@ -2,6 +2,7 @@
 
 ghost use Rattle.std.specs.Prelude.{◌≡◌, false, IfOk, Some};
 ghost use Rattle.cm_io.specs.Counts.{one_more};
+ghost use Rattle.cm_keep.specs.Files.{beside_name};
 
 use crate::{FilePlace, TextKeeper};
 use cm_names::{Memory, Text};
@@ -36,6 +37,7 @@ impl<F: FilePlace + Drop> FileKeeper<F> {
         ensures faults { IfOk result (λ keeper. ⟦<FileKeeper<F> as TextKeeper>⟧.faults keeper ≡ 0) }
         ensures created { IfOk result (λ keeper. F.created keeper.beside keeper.file) }
         ensures place { IfOk result (λ keeper. keeper.place ≡ place.now) }
+        ensures beside { IfOk result (λ keeper. keeper.beside ≡ beside_name place.now number) }
     {
         files.check(place.as_str())?;
         let (place, beside) = match names(alloc, number, place) {
@@ -84,7 +86,8 @@ impl<F: FilePlace + Drop> FileKeeper<F> {
 
 /// The path, and that of the new file beside it.
 fn names(alloc: Global, number: u32, place: &Text) -> Result<(Text, Text), Memory>
-    ensures { IfOk result (λ names. names.0 ≡ place.now) }
+    ensures place { IfOk result (λ names. names.0 ≡ place.now) }
+    ensures beside { IfOk result (λ names. names.1 ≡ beside_name place.now number) }
 {
     let mut beside = Text::new(alloc);
     beside.push(format_args!("{place}.{number}.new"))?;

@@ -1,7 +1,7 @@
 //! The journal of a service: where it is to be kept, and its keeping.
 
 ghost use Rattle.std.specs.Prelude.{◌≡◌, ◌⊎◌, IfOk, IsOk, OnErr, OnOk};
-ghost use Rattle.cm_keep.specs.Files.{IsTried, NeverBegan, StandsAt};
+ghost use Rattle.cm_keep.specs.Files.{IsTried, NeverBegan, StandsAt, beside_name};
 ghost use Rattle.cm_keep.specs.Keeping.{Caused, IsKept, IsLeft, kept_text};
 ghost use Rattle.cm_keep.specs.Service.{Plans};
 
@@ -69,6 +69,7 @@ fn keeper_of<F: FilePlace + Drop>(
     ensures pending { IfOk result (λ keeper. ⟦<FileKeeper<F> as TextKeeper>⟧.pending keeper) }
     ensures created { IfOk result (λ keeper. F.created keeper.beside keeper.file) }
     ensures place { IfOk result (λ keeper. keeper.place ≡ keeping.now.at) }
+    ensures beside { IfOk result (λ keeper. keeper.beside ≡ beside_name keeping.now.at number) }
 {
     match FileKeeper::new(alloc, files, number, &keeping.at) {
         Ok(keeper) => Ok(keeper),
@@ -85,7 +86,7 @@ pub fn try_keeping<F: FilePlace + Drop>(
     number: u32,
     keeping: &Keeping,
 ) -> Result<(), Unkept>
-    ensures { OnOk result (IsTried F.created F.unnamed) }
+    ensures { OnOk result (IsTried F.created F.unnamed (beside_name keeping.now.at number)) }
 {
     let mut keeper = keeper_of(alloc, files, number, keeping)?;
     keeper.give_up();
@@ -125,8 +126,8 @@ pub fn keep_service<F: FilePlace + Drop>(
 ) -> Result<(), Unkept>
     ensures unbegun { NeverBegan status book.now.entries → IsOk result }
     ensures kept { OnOk result (NeverBegan status book.now.entries
-        ⊎ StandsAt F.Draft.contents F.created F.synced F.renamed keeping.now.at
-        (kept_text keeping.now.root book.now.entries)) }
+        ⊎ StandsAt F.Draft.contents F.created F.synced F.renamed (beside_name keeping.now.at number)
+        keeping.now.at (kept_text keeping.now.root book.now.entries)) }
 {
     if status != 0 && book.entries().is_empty() {
         return Ok(());
