@@ -1,6 +1,6 @@
 //! A keeper in memory, which fails where it is planned.
 
-ghost use Rattle.std.specs.Prelude.{◌≡◌, ℕ, List as Seq, Some, [], length};
+ghost use Rattle.std.specs.Prelude.{◌≡◌, ◌==◌, ℕ, List as Seq, Some, [], length};
 ghost use Rattle.cm_io.specs.Counts.{one_more};
 ghost use Rattle.cm_io.specs.CountsInside.{count_after};
 
@@ -28,6 +28,8 @@ impl MemoryKeeper {
         ensures shown { ⟦<MemoryKeeper as TextKeeper>⟧.shown result ≡ Some [] }
         ensures pending { ⟦<MemoryKeeper as TextKeeper>⟧.pending result }
         ensures faults { ⟦<MemoryKeeper as TextKeeper>⟧.faults result ≡ 0 }
+        ensures failing { result.failing ≡ failing }
+        ensures calls { result.calls ≡ 0 }
     {
         MemoryKeeper {
             alloc,
@@ -48,7 +50,9 @@ impl MemoryKeeper {
     }
 
     /// How many calls there were that may fail.
-    pub fn calls(&self) -> u64 {
+    pub fn calls(&self) -> u64
+        ensures { result ≡ self.now.calls }
+    {
         self.calls
     }
 
@@ -62,7 +66,8 @@ impl MemoryKeeper {
 
     /// Counts the call that now begins. Whether it fails; if so, the fault is counted.
     fn fails(&mut self) -> bool
-        ensures { self.new ≡ record self.old {
+        ensures planned { result ≡ (self.old.calls == self.old.failing) }
+        ensures call { self.new ≡ record self.old {
           calls = one_more self.old.calls;
           faults = count_after result self.old.faults;
         } }
