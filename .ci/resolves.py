@@ -18,7 +18,7 @@ import house
 TOP = pathlib.Path(__file__).resolve().parent.parent
 # The modules that the prover makes of a function, a type or a loop.
 MADE = {"Goals", "Given", "TheVariants", "TheConstants", "TheInside", "TheOwn", "Inside", "TheSendSync",
-        "TheLaws", "TheKnot", "TheImpl"}
+        "TheLaws", "TheKnot", "TheImpl", "TheOpen", "the_lemmas"}
 
 
 def names_of(path):
@@ -47,10 +47,11 @@ class Places:
     def is_made(self, crate, name):
         """Whether a name is of the sources, or of a type and a trait behind it, or the prover's own.
 
-        A variant of a type that reaches itself through a pointer is the prover's with a prime behind it.
+        A variant of a type that reaches itself through a pointer is the prover's with a prime behind it. Of
+        a type T that holds values of itself it makes `fold-T`, and `T-F` for one level.
         """
         words = self.words[crate]
-        name = name.removesuffix("'")
+        name = name.removesuffix("'").removeprefix("fold-").removesuffix("-F")
         pairs = (name[:n] in words and name[n:] in words for n in range(1, len(name)))
         return name in words or name in MADE or name in ("declared", "contracts", "laws") or any(pairs)
 

@@ -1,3 +1,4 @@
+pub mod TreeLemmas
 pub mod ValueLemmas
 pub mod PlainLemmas
 pub mod PieceLemmas

@@ -1,7 +1,7 @@
 -- Texts of marks, plain strings and spaces: their JSON has the same lexemes.
-use Rattle.std.proofs.Common.{◌≡◌, ℕ, ◌-◌, List, [], ◌∷◌, ◌++◌, length, take, drop, map}
-use Rattle.std.proofs.Common.{Bool, true, false, not, ◌&&◌, ◌||◌, ◌==◌, nat_lt, if◌then◌else◌, Option, Some, None}
-use Rattle.std.proofs.Common.{option_and_then, take_while, refl, sym, ap, ◌∙◌, append_assoc, append-nil}
+use Rattle.std.proofs.Common.{◌≡◌, ℕ, List, [], ◌∷◌, ◌++◌, length, drop, map}
+use Rattle.std.proofs.Common.{Bool, true, false, cond, not, ◌&&◌, ◌||◌, ◌==◌, nat_lt, if◌then◌else◌, Option, Some, None}
+use Rattle.std.proofs.Common.{option_and_then, refl, sym, ap, ◌∙◌, append_assoc, append-nil}
 use Rattle.std.proofs.Common.{arith, rules}
 use Rattle.std.proofs.lemmas.Bool.{and_parts, or_parts, not-true, eqb-true}
 use Rattle.std.specs.List.{list_all, flat_map, join_with_byte}
@@ -17,14 +17,11 @@ use Rattle.cm_text.specs.Token.{block_comment, char_bytes, token_bytes, piece_by
 use Rattle.cm_text.specs.TokenInside.{bytes_of}
 use Rattle.cm_text.specs.Token.{token as piece}
 use Rattle.cm_text.specs.Split.{is_char, are_pieces, AreTokensOf}
-use Rattle.cm_text.specs.Pieces.{tokens}
 use Rattle.cm_text.specs.Json.{is_comma, is_colon, is_closing, keeps_comma, is_mark_of, is_some_token, head_of}
-use Rattle.cm_text.specs.Json.{is_needless, token_json, spelling, spellings, json_of_tokens, json_result}
+use Rattle.cm_text.specs.Json.{is_needless, token_json, spellings, json_of_tokens, json_result}
 use Rattle.cm_text.proofs.pieces.PieceLemmas.{are_computed}
-use Rattle.cm_plain.specs.Plain.{is_plain, begins, is_plain_char, comma_behind, comma_behind_all, PassesPiece}
-use Rattle.cm_plain.specs.Plain.{PassesPieces, ReadsAsJson}
-use Rattle.cm_plain.proofs.PlainLemmas.{at_mark, at_string, at_space, behind_a_space, unslice}
-use Rattle.cm_plain.proofs.PlainLemmas.{parts_of_string}
+use Rattle.cm_plain.specs.Plain.{is_plain, is_plain_char, comma_behind, comma_behind_all, PassesPieces, ReadsAsJson}
+use Rattle.cm_plain.proofs.PlainLemmas.{at_mark, at_string, at_space, behind_a_space}
 use Rattle.cm_plain.proofs.ValueLemmas.{pick}
 
 -- ---- a piece
@@ -194,51 +191,71 @@ spelled (space b ∷ ps) before c d e =
 spelled (line_comment bs ∷ ps) before c d e = absurd (cc)
 spelled (block_comment bs ∷ ps) before c d e = absurd (cc)
 
--- ---- the loop
+-- ---- one piece after another
 
-push_bytes : (ps : List Piece) (p : Piece) (rest : List ℕ)
-    → bytes_of (ps ++ p ∷ []) ++ rest ≡ bytes_of ps ++ (piece_bytes p ++ rest)
-push_bytes [] p rest = ap (λ l. l ++ rest) (append-nil (piece_bytes p))
-push_bytes (q ∷ ps) p rest =
-    append_assoc (piece_bytes q) (bytes_of (ps ++ p ∷ [])) rest ∙ ap (λ l. piece_bytes q ++ l) (push_bytes ps p rest)
-    ∙ sym (append_assoc (piece_bytes q) (bytes_of ps) (piece_bytes p ++ rest))
+then_bytes : (ps qs : List Piece) (rest : List ℕ)
+    → bytes_of (ps ++ qs) ++ rest ≡ bytes_of ps ++ (bytes_of qs ++ rest)
+then_bytes [] qs rest = refl
+then_bytes (p ∷ ps) qs rest =
+    append_assoc (piece_bytes p) (bytes_of (ps ++ qs)) rest ∙ ap (λ l. piece_bytes p ++ l) (then_bytes ps qs rest)
+    ∙ sym (append_assoc (piece_bytes p) (bytes_of ps) (bytes_of qs ++ rest))
 
-push_comma : (ps : List Piece) (p : Piece) (c d e : Bool) → comma_behind_all c ps ≡ Some d → comma_behind d p ≡ Some e
-    → comma_behind_all c (ps ++ p ∷ []) ≡ Some e
-push_comma [] p c d e h k =
+then_comma : (ps qs : List Piece) (c d e : Bool) → comma_behind_all c ps ≡ Some d → comma_behind_all d qs ≡ Some e
+    → comma_behind_all c (ps ++ qs) ≡ Some e
+then_comma [] qs c d e h k =
     let same : c ≡ d = (some_if true c d h).1 in
-    ap (λ g. option_and_then (λ f. comma_behind_all f []) (comma_behind g p)) same
-    ∙ ap (option_and_then (λ f. comma_behind_all f [])) k
-push_comma (q ∷ ps) p c d e h k =
-    let s = then_some (λ g. comma_behind_all g ps) (comma_behind c q) d h in
-    ap (option_and_then (λ f. comma_behind_all f (ps ++ p ∷ []))) s.1 ∙ push_comma ps p s.0 d e s.2 k
+    ap (λ g. comma_behind_all g qs) same ∙ k
+then_comma (p ∷ ps) qs c d e h k =
+    let s = then_some (λ g. comma_behind_all g ps) (comma_behind c p) d h in
+    ap (option_and_then (λ f. comma_behind_all f (ps ++ qs))) s.1 ∙ then_comma ps qs s.0 d e s.2 k
 
-pub one_passed : (text mid rest : List ℕ) (c d : Bool) → PassesPieces text c mid → PassesPiece c mid d rest
-    → PassesPieces text d rest
-one_passed text mid rest c d before next = record {
-  passed = before.passed ++ next.passed ∷ [];
-  bytes = push_bytes before.passed next.passed rest ∙ ap (λ l. bytes_of before.passed ++ l) next.bytes ∙ before.bytes;
-  comma = push_comma before.passed next.passed false c d before.comma next.comma;
+pub passes_nothing : (c : Bool) (text : List ℕ) → PassesPieces c text c text
+passes_nothing c text = record { passed = []; bytes = refl; comma = refl }
+
+pub passes_then : (c d e : Bool) (text mid rest : List ℕ) → PassesPieces c text d mid → PassesPieces d mid e rest
+    → PassesPieces c text e rest
+passes_then c d e text mid rest first next = record {
+  passed = first.passed ++ next.passed;
+  bytes = then_bytes first.passed next.passed rest ∙ ap (λ l. bytes_of first.passed ++ l) next.bytes ∙ first.bytes;
+  comma = then_comma first.passed next.passed c d e first.comma next.comma;
 }
 
-pub passes_space : (c : Bool) (t : List ℕ) → begins_with is_space t ≡ true
-    → PassesPiece c t c (take (length t - 1) (drop 1 t))
-passes_space c [] h = absurd (cc)
-passes_space c (x ∷ xs) h =
-    let is : is_space x ≡ true = h in
-    record { passed = space x; bytes = ap (λ l. x ∷ l) (unslice 1 (x ∷ xs)); comma = rw is }
+pub not_both : (c : Bool) → (c && false) ≡ false
+not_both true = refl
+not_both false = refl
 
-pub passes_mark : (c d : Bool) (t : List ℕ) → begins_with is_mark t ≡ true → (c && begins_with is_closing t) ≡ false
-    → d ≡ begins 44 t → PassesPiece c t d (take (length t - 1) (drop 1 t))
-passes_mark c d [] h k e = absurd (cc)
-passes_mark c d (x ∷ xs) h k e =
-    let is : is_mark x ≡ true = h in
-    let stays : (c && is_closing x) ≡ false = k in
-    record {
-      passed = piece (mark x);
-      bytes = ap (λ l. x ∷ l) (unslice 1 (x ∷ xs));
-      comma = rw (is, stays) (ap Some (sym e));
-    }
+passes_one : (c d : Bool) (p : Piece) (text rest : List ℕ) → piece_bytes p ++ rest ≡ text
+    → comma_behind c p ≡ Some d → PassesPieces c text d rest
+passes_one c d p text rest bytes comma = record {
+  passed = p ∷ [];
+  bytes = ap (λ l. l ++ rest) (append-nil (piece_bytes p)) ∙ bytes;
+  comma = ap (option_and_then (λ f. comma_behind_all f [])) comma;
+}
+
+pub passes_space : (c : Bool) (t rest : List ℕ) → begins_with is_space t ≡ true → rest ≡ drop 1 t
+    → PassesPieces c t c rest
+passes_space c [] rest h e = absurd (cc)
+passes_space c (x ∷ xs) rest h e =
+    let is : is_space x ≡ true = h in
+    passes_one c c (space x) (x ∷ xs) rest (ap (λ l. x ∷ l) e) (rw is)
+
+of_class : (q k m s : Bool)
+    → cond q of_lex.quote (cond k of_lex.backslash (cond m operator (cond s of_lex.space of_lex.other))) ≡ operator
+    → m ≡ true
+of_class true k m s h = absurd (cc)
+of_class false true m s h = absurd (cc)
+of_class false false true s h = refl
+of_class false false false true h = absurd (cc)
+of_class false false false false h = absurd (cc)
+
+class_mark : (b : ℕ) → class b ≡ operator → is_mark b ≡ true
+class_mark b h = of_class (b == 34) (b == 92) (is_mark b) (is_space b) h
+
+pub passes_mark : (c : Bool) (b : ℕ) (t rest : List ℕ) → class b ≡ operator → t ≡ b ∷ rest
+    → (c && is_closing b) ≡ false → PassesPieces c t (is_comma b) rest
+passes_mark c b t rest h e stays =
+    let is : is_mark b ≡ true = class_mark b h in
+    passes_one c (is_comma b) (piece (mark b)) t rest (sym e) (rw (is, stays))
 
 chars_back : (s : List ℕ) → flat_map char_bytes (map plain s) ≡ s
 chars_back [] = refl
@@ -250,18 +267,12 @@ chars_plain (b ∷ bs) h =
     let both = and_parts (is_plain b) (list_all is_plain bs) h in
     rw (both.0) (chars_plain bs both.1)
 
-pub passes_string : (c : Bool) (opened inside closed rest : List ℕ) (n : ℕ) → begins 34 opened ≡ true
-    → inside ≡ take (length opened - 1) (drop 1 opened) → n ≡ length (take_while is_plain inside)
-    → closed ≡ take (length inside - n) (drop n inside) → begins 34 closed ≡ true
-    → rest ≡ take (length closed - 1) (drop 1 closed) → PassesPiece c opened false rest
-passes_string c opened inside closed rest n h i len k q r =
-    let parts = parts_of_string opened inside closed rest n h i len k q r in
-    let s = take n inside in
-    record {
-      passed = piece (quoted 34 (map plain s));
-      bytes = quoted_bytes (map plain s) rest ∙ ap (λ l. 34 ∷ (l ++ 34 ∷ rest)) (chars_back s) ∙ sym parts.0;
-      comma = rw (chars_plain s parts.1);
-    }
+pub passes_string : (c : Bool) (text inside plain rest : List ℕ) → text ≡ 34 ∷ inside → inside ≡ plain ++ 34 ∷ rest
+    → list_all is_plain plain ≡ true → PassesPieces c text false rest
+passes_string c text inside s rest o e h =
+    passes_one c false (piece (quoted 34 (map plain s))) text rest
+    (quoted_bytes (map plain s) rest ∙ ap (λ l. 34 ∷ (l ++ 34 ∷ rest)) (chars_back s) ∙ sym (o ∙ ap (λ l. 34 ∷ l) e))
+    (rw (chars_plain s h))
 
 -- ---- the whole text
 
@@ -272,7 +283,7 @@ nothing_behind (x ∷ xs) h = absurd (omega arith)
 abbrev of_lexemes : List Lexeme → Option Data
 of_lexemes ls = option_and_then of_json (option_and_then (λ p. if_last p.0 p.1) (value 127 (punctuate fresh ls)))
 
-pub reads_as_json : (text rest : List ℕ) (c : Bool) → PassesPieces text c rest → length rest ≡ 0 → ReadsAsJson text
+pub reads_as_json : (text rest : List ℕ) (c : Bool) → PassesPieces false text c rest → length rest ≡ 0 → ReadsAsJson text
 reads_as_json text rest c all none =
     let ps = all.passed in
     let bytes : bytes_of ps ++ [] ≡ text = ap (λ l. bytes_of ps ++ l) (sym (nothing_behind rest none)) ∙ all.bytes in

@@ -2,14 +2,13 @@
 use Rattle.std.proofs.Common.{◌≡◌, ℕ, zero, suc, ◌+◌, ◌-◌, ◌<◌, ◌≤◌, List, [], ◌∷◌, ◌++◌, length, take, drop, get_or}
 use Rattle.std.specs.Str.{IsUtf8, IsCharBoundary}
 use Rattle.std.proofs.lemmas.Str.{IsCharBoundary-after_ascii}
-use Rattle.std.proofs.Common.{Bool, true, false, cond, ◌||◌, ◌==◌, nat_lt, Some, String, Vec, BTreeMap, Global}
-use Rattle.std.proofs.Common.{string_bytes, string_cmp, take_while, refl, sym, ap, ap₂, ◌∙◌, subst, arith, rules}
+use Rattle.std.proofs.Common.{Bool, true, false, cond, ◌||◌, ◌==◌, nat_lt, Some, Vec, Bor, Global}
+use Rattle.std.proofs.Common.{take_while, refl, sym, ap, ap₂, ◌∙◌, subst, arith, rules}
 use Rattle.std.proofs.lemmas.Bool.{and_parts, or_parts, not-true, eqb-true, eqb-false, ltb-false}
 use Rattle.std.proofs.lemmas.List.{take-append-drop, length-drop}
 use Rattle.std.proofs.Math.Seq.{take-length}
 use Rattle.std.proofs.lemmas.List.Sums.{take_while-cons}
 use Rattle.std.specs.List.{list_all}
-use Rattle.std.specs.BTreeMap.{insert_entry}
 use Rattle.json.specs.Token.{Token, key, end_array, end_object, begin_array, begin_object}
 use Rattle.json.specs.Token as of_token
 use Rattle.json.specs.Json.{parse_map, read_key, after_end_array, items, members, value}
@@ -23,10 +22,10 @@ use Rattle.json.proofs.Printed.Strings.{escape_byte_plain, content-escape, lex-e
 use Rattle.serde_json.specs.Data.{Data, array, object, Members, no_members, put}
 use Rattle.serde_json.specs.Data as of_data
 use Rattle.serde_json.specs.Read.{of_json, of_items, of_members, converted, read}
-use Rattle.serde_json.specs.View.{view, items_view, members_view}
-use Rattle.serde_json.specs.declared.value.Value.{Value, Array, Object, the_lemmas}
-use Rattle.serde_json.specs.declared.value.Value as made
-use Rattle.serde_json.proofs.Views.{Entry, view-Array, view-Object, members_view-insert_entry}
+use Rattle.cm_plain.specs.JsonTree.{view, items_view, members_view}
+use Rattle.cm_plain.specs.declared.tree.JsonTree.{JsonTree, Array, Object, the_lemmas}
+use Rattle.cm_plain.specs.declared.tree.JsonTree as made
+use Rattle.cm_plain.proofs.TreeLemmas.{Member, view-Array, view-Object, members_push}
 use Rattle.cm_text.specs.Bytes.{is_mark, is_space, begins_with}
 use Rattle.cm_plain.specs.Plain.{is_plain, begins, left, NoColon, HasValue, HasItems, HasMembers, AddsItem, AddsMember}
 use Rattle.cm_plain.proofs.ValueLemmas.{array_read, object_read, item_read, items_over, member_read, members_over}
@@ -147,27 +146,11 @@ pub plain_before : (bytes t s : List ℕ) (n : ℕ) → bytes ≡ t → n ≡ le
 plain_before bytes t s n v len p =
     ap (list_all is_plain) (p ∙ ap (take n) (sym v) ∙ ap (λ k. take k bytes) len) ∙ prefix_is_plain bytes
 
--- a string by its bytes, up to its closing quote
-pub parts_of_string : (opened inside closed rest : List ℕ) (n : ℕ) → begins 34 opened ≡ true
-    → inside ≡ take (length opened - 1) (drop 1 opened) → n ≡ length (take_while is_plain inside)
-    → closed ≡ take (length inside - n) (drop n inside) → begins 34 closed ≡ true
-    → rest ≡ take (length closed - 1) (drop 1 closed)
-    → (opened ≡ 34 ∷ (take n inside ++ 34 ∷ rest)) × (list_all is_plain (take n inside) ≡ true)
-parts_of_string opened inside closed rest n h i len c k r =
-    let behind : drop n inside ≡ 34 ∷ rest =
-    sym (c ∙ unslice n inside) ∙ first_of 34 closed k ∙ ap (λ l. 34 ∷ l) (sym r) in (
-      first_of 34 opened h
-          ∙ ap (λ l. 34 ∷ l) (sym i ∙ sym (take-append-drop n inside) ∙ ap (λ l. take n inside ++ l) behind),
-      ap (λ k. list_all is_plain (take k inside)) len ∙ prefix_is_plain inside,
-    )
-
-pub string_passed : (text opened inside rest plain : List ℕ) (s : String Global)
+pub string_passed : (text opened inside rest plain : List ℕ)
     → lex between opened ≡ lex between text → opened ≡ 34 ∷ inside → inside ≡ plain ++ 34 ∷ rest
-    → list_all is_plain plain ≡ true → string_bytes s ≡ plain
-    → lex between text ≡ token (of_token.string (string_bytes s)) ∷ lex between rest
-string_passed text opened inside rest plain s same o i all made =
+    → list_all is_plain plain ≡ true → lex between text ≡ token (of_token.string plain) ∷ lex between rest
+string_passed text opened inside rest plain same o i all =
     sym same ∙ ap (lex between) (o ∙ ap (λ l. 34 ∷ l) i) ∙ at_string plain rest all
-    ∙ ap (λ l. token (of_token.string l) ∷ lex between rest) (sym made)
 
 -- ---- tokens
 
@@ -229,16 +212,16 @@ nothing_left = refl
 
 -- ---- one value
 
-pub value_of_string : (depth : ℕ) (text rest : List ℕ) (s : String Global)
-    → lex between text ≡ token (of_token.string (string_bytes s)) ∷ lex between rest
-    → HasValue depth text (view (made.String s)) rest
+pub value_of_string : (depth : ℕ) (text rest : List ℕ) (s : Bor (List ℕ))
+    → lex between text ≡ token (of_token.string s.now) ∷ lex between rest
+    → HasValue depth text (view (made.Text s)) rest
 value_of_string depth text rest s e p m free =
-    let seen : view (made.String s) ≡ of_data.string (string_bytes s) = search (rules, the_lemmas) in
-    let ts : left p text ≡ of_token.string (string_bytes s) ∷ left after_value rest =
-    ap (punctuate p) e ∙ string_next p (string_bytes s) (lex between rest) m free in
+    let seen : view (made.Text s) ≡ of_data.string s.now = search (rules, the_lemmas) in
+    let ts : left p text ≡ of_token.string s.now ∷ left after_value rest =
+    ap (punctuate p) e ∙ string_next p s.now (lex between rest) m free in
     ap (converted of_json) (ap (value depth) ts ∙ value_is depth _) ∙ ap (λ d. Some (d, left after_value rest)) (sym seen)
 
-pub value_of_items : (depth : ℕ) (text inside rest : List ℕ) (v : Vec Value Global) → 0 < depth
+pub value_of_items : (depth : ℕ) (text inside rest : List ℕ) (v : Vec JsonTree Global) → 0 < depth
     → lex between text ≡ token begin_array ∷ lex between inside
     → HasItems (depth - 1) inside (items_view v.items) rest → HasValue depth text (view (Array v)) rest
 value_of_items depth text inside rest v some e h p m free =
@@ -248,9 +231,9 @@ value_of_items depth text inside rest v some e h p m free =
     ∙ array_read (items (value (depth - 1)) (length (left fresh inside)) (left fresh inside))
     ∙ ap (parse_map array) h ∙ ap (λ d. Some (d, left after_value rest)) (sym (view-Array v))
 
-pub value_of_members : (depth : ℕ) (text inside rest : List ℕ) (m : BTreeMap (String Global) Value) → 0 < depth
+pub value_of_members : (depth : ℕ) (text inside rest : List ℕ) (m : Vec Member Global) → 0 < depth
     → lex between text ≡ token begin_object ∷ lex between inside
-    → HasMembers (depth - 1) inside (members_view m.entries) rest → HasValue depth text (view (Object m)) rest
+    → HasMembers (depth - 1) inside (members_view m.items) rest → HasValue depth text (view (Object m)) rest
 value_of_members depth text inside rest m some e h p may free =
     let ts : left p text ≡ begin_object ∷ left fresh inside =
     ap (punctuate p) e ∙ object_next p (lex between inside) may in
@@ -261,17 +244,17 @@ value_of_members depth text inside rest m some e h p may free =
 -- ---- items
 
 -- what is left gives the items behind those that were found
-pub record ItemsFrom (depth : ℕ) (text : List ℕ) (found : List Value) (ts : List Token) : Type 0 where
+pub record ItemsFrom (depth : ℕ) (text : List ℕ) (found : List JsonTree) (ts : List Token) : Type 0 where
   pub turns : ℕ
   pub enough : length ts ≤ turns
   pub same : converted of_items (items (value depth) (length (left fresh text)) (left fresh text))
       ≡ parse_map (items_before found) (converted of_items (items (value depth) turns ts))
 
 -- so it is behind an item, unless a colon is next
-abbrev pub ItemsSo : ℕ → List ℕ → List Value → List ℕ → Type 0
+abbrev pub ItemsSo : ℕ → List ℕ → List JsonTree → List ℕ → Type 0
 ItemsSo depth text found rest = NoColon rest → ItemsFrom depth text found (left after_value rest)
 
-item_turn : (depth : ℕ) (text here : List ℕ) (p : Place) (old new : List Value) (rest : List ℕ)
+item_turn : (depth : ℕ) (text here : List ℕ) (p : Place) (old new : List JsonTree) (rest : List ℕ)
     → may_begin p ≡ true → ItemsFrom depth text old (left p here) → AddsItem depth here old new rest
     → ItemsSo depth text new rest
 item_turn depth text here p old new rest m so adds free =
@@ -292,7 +275,7 @@ item_turn depth text here p old new rest m so adds free =
           (sym adds.grows);
     }
 
-pub first_item : (depth : ℕ) (text : List ℕ) (old new : List Value) (rest : List ℕ) → old ≡ []
+pub first_item : (depth : ℕ) (text : List ℕ) (old new : List JsonTree) (rest : List ℕ) → old ≡ []
     → AddsItem depth text old new rest → ItemsSo depth text new rest
 first_item depth text old new rest none adds =
     let all = converted of_items (items (value depth) (length (left fresh text)) (left fresh text)) in
@@ -304,7 +287,7 @@ first_item depth text old new rest none adds =
     })
     adds
 
-pub next_item : (depth : ℕ) (text : List ℕ) (old new : List Value) (mid behind rest : List ℕ)
+pub next_item : (depth : ℕ) (text : List ℕ) (old new : List JsonTree) (mid behind rest : List ℕ)
     → ItemsSo depth text old mid → lex between mid ≡ comma ∷ lex between behind
     → AddsItem depth behind old new rest → ItemsSo depth text new rest
 next_item depth text old new mid behind rest so e adds =
@@ -313,7 +296,7 @@ next_item depth text old new mid behind rest so e adds =
     item_turn depth text behind after_comma old new rest refl
     (subst (ItemsFrom depth text old) moved (so (ap begins_colon e))) adds
 
-pub items_end : (depth : ℕ) (text : List ℕ) (found : List Value) (mid rest : List ℕ)
+pub items_end : (depth : ℕ) (text : List ℕ) (found : List JsonTree) (mid rest : List ℕ)
     → ItemsSo depth text found mid → lex between mid ≡ token end_array ∷ lex between rest
     → HasItems depth text (items_view found) rest
 items_end depth text found mid rest so e =
@@ -325,7 +308,7 @@ items_end depth text found mid rest so e =
     (items_over (value depth) here.turns (left after_value mid) r here.enough (ap after_end_array ts))
     ∙ ap (λ ds. Some (ds, r)) (items_are_before found)
 
-pub no_items_end : (depth : ℕ) (text : List ℕ) (found : List Value) (rest : List ℕ) → found ≡ []
+pub no_items_end : (depth : ℕ) (text : List ℕ) (found : List JsonTree) (rest : List ℕ) → found ≡ []
     → lex between text ≡ token end_array ∷ lex between rest → HasItems depth text (items_view found) rest
 no_items_end depth text found rest none e =
     let r = left after_value rest in
@@ -368,7 +351,7 @@ member_turn depth text here p old new rest m so adds free =
           ∙ ap (λ f. converted (λ ms. of_members ms f) (members (value depth) (so.turns - 1) r)) (sym adds.grows);
     }
 
-pub first_member : (depth : ℕ) (text : List ℕ) (old : List Entry) (new : Members) (rest : List ℕ) → old ≡ []
+pub first_member : (depth : ℕ) (text : List ℕ) (old : List Member) (new : Members) (rest : List ℕ) → old ≡ []
     → AddsMember depth text (members_view old) new rest → MembersSo depth text new rest
 first_member depth text old new rest none adds =
     let all = members (value depth) (length (left fresh text)) (left fresh text) in
@@ -398,7 +381,7 @@ members_end depth text found mid rest so e =
     let ts : left after_value mid ≡ end_object ∷ r = ap (punctuate after_value) e ∙ object_ends (lex between rest) in
     here.same ∙ members_over (value depth) found here.turns (left after_value mid) r here.enough (ap read_key ts)
 
-pub no_members_end : (depth : ℕ) (text : List ℕ) (found : List Entry) (rest : List ℕ) → found ≡ []
+pub no_members_end : (depth : ℕ) (text : List ℕ) (found : List Member) (rest : List ℕ) → found ≡ []
     → lex between text ≡ token end_object ∷ lex between rest → HasMembers depth text (members_view found) rest
 no_members_end depth text found rest none e =
     let r = left after_value rest in
@@ -406,17 +389,17 @@ no_members_end depth text found rest none e =
     members_over (value depth) no_members (length (left fresh text)) (left fresh text) r (omega arith) (ap read_key ts)
     ∙ ap (λ es. Some (members_view es, r)) (sym none)
 
-pub member_added : (depth : ℕ) (text mid behind rest : List ℕ) (old new : List Entry) (k : String Global) (v : Value)
-    → lex between text ≡ token (of_token.string (string_bytes k)) ∷ lex between mid
+pub member_added : (depth : ℕ) (text mid behind rest : List ℕ) (old new : List Member) (k : Bor (List ℕ)) (v : JsonTree)
+    → lex between text ≡ token (of_token.string k.now) ∷ lex between mid
     → lex between mid ≡ colon ∷ lex between behind → HasValue depth behind (view v) rest
-    → new ≡ insert_entry string_cmp old k v
+    → new ≡ old ++ (k, v) ∷ []
     → AddsMember depth text (members_view old) (members_view new) rest
 member_added depth text mid behind rest old new k v named marked reads put = record {
-  key = string_bytes k;
+  key = k.now;
   behind = behind;
   added = view v;
-  named = named ∙ ap (λ ls. token (of_token.string (string_bytes k)) ∷ ls) marked;
-  grows = ap members_view put ∙ members_view-insert_entry old k v;
+  named = named ∙ ap (λ ls. token (of_token.string k.now) ∷ ls) marked;
+  grows = ap members_view put ∙ members_push old (k, v);
   reads = reads;
 }
 

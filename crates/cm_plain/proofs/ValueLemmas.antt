@@ -7,8 +7,8 @@ use Rattle.json.specs.Json.{Parse, parse_map, after_end_array, read_key, items, 
 use Rattle.json.proofs.Grammar.{items_end, items_more, members_end, members_more, value_is, skip_value-shorter}
 use Rattle.serde_json.specs.Data.{Data, array, object, Items, no_items, item, Members, no_members, put}
 use Rattle.serde_json.specs.Read.{of_json, of_items, of_members, converted}
-use Rattle.serde_json.specs.View.{view, items_view}
-use Rattle.serde_json.specs.declared.value.Value.{Value}
+use Rattle.cm_plain.specs.JsonTree.{view, items_view}
+use Rattle.cm_plain.specs.declared.tree.JsonTree.{JsonTree}
 
 -- ---- what is read stands for a value
 
@@ -112,20 +112,20 @@ no_end depth (Token.bad ∷ ts) r d e = refl
 
 -- ---- a list that grows at its end
 
-abbrev pub items_before : List Value → Items → Items
+abbrev pub items_before : List JsonTree → Items → Items
 items_before [] rest = rest
 items_before (v ∷ vs) rest = item (view v) (items_before vs rest)
 
-pub items_are_before : (vs : List Value) → items_before vs no_items ≡ items_view vs
+pub items_are_before : (vs : List JsonTree) → items_before vs no_items ≡ items_view vs
 items_are_before [] = refl
 items_are_before (v ∷ vs) = ap (item (view v)) (items_are_before vs)
 
-items_push : (vs : List Value) (v : Value) (rest : Items)
+items_push : (vs : List JsonTree) (v : JsonTree) (rest : Items)
     → items_before vs (item (view v) rest) ≡ items_before (vs ++ v ∷ []) rest
 items_push [] v rest = refl
 items_push (w ∷ vs) v rest = ap (item (view w)) (items_push vs v rest)
 
-pub one_more : (vs : List Value) (v : Value) (r : Option (Items × List Token))
+pub one_more : (vs : List JsonTree) (v : JsonTree) (r : Option (Items × List Token))
     → parse_map (items_before vs) (parse_map (item (view v)) r) ≡ parse_map (items_before (vs ++ v ∷ [])) r
 one_more vs v None = refl
 one_more vs v (Some p) = ap (λ ds. Some (ds, p.1)) (items_push vs v p.0)

@@ -10,14 +10,14 @@ use Rattle.json.specs.Lex.{token, colon, lex, between, Place, fresh, after_value
 use Rattle.json.specs.Lex.{begins_colon, punctuate}
 use Rattle.cm_text.specs.Bytes.{is_mark, is_space}
 use Rattle.cm_text.specs.Token.{Char, plain, taken, mark, quoted, word, Piece, space, line_comment}
-use Rattle.cm_text.specs.Token.{block_comment, piece_bytes}
+use Rattle.cm_text.specs.Token.{block_comment}
 use Rattle.cm_text.specs.TokenInside.{bytes_of}
 use Rattle.cm_text.specs.Token.{token as piece}
 use Rattle.cm_text.specs.Json.{json_of, is_comma, is_closing}
 use Rattle.serde_json.specs.Data.{Data, Items, Members, no_members, put}
 use Rattle.serde_json.specs.Read.{of_json, of_items, of_members, converted, read}
-use Rattle.serde_json.specs.View.{view}
-use Rattle.serde_json.specs.declared.value.Value.{Value}
+use Rattle.cm_plain.specs.JsonTree.{view}
+use Rattle.cm_plain.specs.declared.tree.JsonTree.{JsonTree}
 
 -- whether a byte stands for itself in a string
 abbrev pub is_plain : ℕ → Bool
@@ -57,8 +57,8 @@ HasMembers depth text ms rest =
     ≡ Some (ms, left after_value rest)
 
 -- the reader has taken one more item of a list
-pub record AddsItem (depth : ℕ) (text : List ℕ) (old new : List Value) (rest : List ℕ) : Type 0 where
-  pub added : Value
+pub record AddsItem (depth : ℕ) (text : List ℕ) (old new : List JsonTree) (rest : List ℕ) : Type 0 where
+  pub added : JsonTree
   pub grows : new ≡ old ++ added ∷ []
   pub reads : HasValue depth text (view added) rest
 
@@ -93,18 +93,12 @@ abbrev pub comma_behind_all : Bool → List Piece → Option Bool
 comma_behind_all c [] = Some c
 comma_behind_all c (p ∷ ps) = option_and_then (λ d. comma_behind_all d ps) (comma_behind c p)
 
--- one piece was passed, and this rest follows; c and d say whether a comma was the last token before
--- and after it
-pub record PassesPiece (c : Bool) (text : List ℕ) (d : Bool) (rest : List ℕ) : Type 0 where
-  pub passed : Piece
-  pub bytes : piece_bytes passed ++ rest ≡ text
-  pub comma : comma_behind c passed ≡ Some d
-
--- some pieces were passed, and this rest follows
-pub record PassesPieces (text : List ℕ) (d : Bool) (rest : List ℕ) : Type 0 where
+-- some pieces were passed, and this rest follows; c and d say whether a comma was the last token before
+-- and after them
+pub record PassesPieces (c : Bool) (text : List ℕ) (d : Bool) (rest : List ℕ) : Type 0 where
   pub passed : List Piece
   pub bytes : bytes_of passed ++ rest ≡ text
-  pub comma : comma_behind_all false passed ≡ Some d
+  pub comma : comma_behind_all c passed ≡ Some d
 
 -- the text in the relaxed spelling can be read as if it were JSON: both read the same
 pub record ReadsAsJson (text : List ℕ) : Type 0 where

@@ -1,23 +1,24 @@
 //! Plain texts: JSON texts that have no escapes, numbers or words.
 //!
 //! Most manifests are such texts. Here they are read in one pass over their bytes, with no memory but
-//! that of the values; the reader of all JSON texts clears 16 KB for each text before it begins. A
-//! manifest that is plain itself, in the relaxed spelling, needs no JSON written for it.
+//! that of lists and objects, since texts are borrowed; the reader of all JSON texts clears 16 KB for
+//! each text before it begins. A manifest that is plain itself, in the relaxed spelling, needs no JSON
+//! written for it.
 
-ghost use Rattle.std.specs.Prelude.{◌≡◌, ◌≤◌, ◌<◌, ◌∷◌, length, take_while, string_bytes, Some, IfSome};
-ghost use Rattle.std.specs.Prelude.{◌&&◌, ◌++◌, Bool, IsTrue, true, false};
+ghost use Rattle.std.specs.Prelude.{◌≡◌, ◌≤◌, ◌<◌, ◌∷◌, length, take_while, Some, IfSome};
+ghost use Rattle.std.specs.Prelude.{◌&&◌, ◌++◌, Bool, true, false};
 ghost use Rattle.std.specs.List.{list_all};
 ghost use Rattle.json.specs.Lex.{class, operator, operator_lexeme, lex, between, token};
 ghost use Rattle.json.specs.Token.{string};
 ghost use Rattle.serde_json.specs.Read.{read as read_text};
-ghost use Rattle.serde_json.specs.View.{view, items_view, members_view};
 ghost use Rattle.cm_text.specs.Bytes as bytes;
 ghost use Rattle.cm_text.specs.Json as json_text;
 ghost use Rattle.cm_plain.specs.Plain as spec;
 ghost use Rattle.cm_plain.specs.Plain.{HasValue, HasItems, HasMembers, AddsItem, AddsMember};
-ghost use Rattle.cm_plain.specs.Plain.{PassesPiece, ReadsAsJson};
+ghost use Rattle.cm_plain.specs.Plain.{PassesPieces, ReadsAsJson};
+ghost use Rattle.cm_plain.specs.JsonTree.{view, items_view, members_view};
 
-use serde_json::{Map, Value};
+use crate::tree::JsonTree;
 use std::alloc::Global;
 
 /// How deep the arrays and objects that are read here may nest: as deep as a JSON text's may.
@@ -64,6 +65,7 @@ fn behind_byte(text: &str, byte: u8) -> Option<&str>
 /// What stands after a space that is next.
 fn behind_one_space(text: &str) -> Option<&str>
     ensures lexed { IfSome result (λ rest. lex between rest.now ≡ lex between text.now) }
+    ensures passed { IfSome result (λ rest. (c : Bool) → PassesPieces c text.now c rest.now) }
     ensures shorter { IfSome result (λ rest. length rest.now < length text.now) }
 {
     if !begins_space(text.as_bytes()) {
@@ -75,6 +77,7 @@ fn behind_one_space(text: &str) -> Option<&str>
 /// What stands after the spaces that come first.
 fn behind_space(text: &str) -> &str
     ensures lexed { lex between result.now ≡ lex between text.now }
+    ensures passed { (c : Bool) → PassesPieces c text.now c result.now }
     ensures shorter { length result.now ≤ length text.now }
 {
     let mut left = text;
@@ -91,9 +94,12 @@ fn behind_mark(text: &str, mark: u8) -> Option<&str>
     requires ascii { mark < 128 }
     ensures lexed { IfSome result
         (λ rest. lex between text.now ≡ operator_lexeme mark ∷ lex between rest.now) }
+    ensures passed { IfSome result (λ rest. (c : Bool) → (c && json_text.is_closing mark) ≡ false
+        → PassesPieces c text.now (json_text.is_comma mark) rest.now) }
     ensures shorter { IfSome result (λ rest. length rest.now < length text.now) }
 {
-    behind_byte(behind_space(text), mark)
+    let rest = behind_byte(behind_space(text), mark)?;
+    Some(rest)
 }
 
 /// Whether the byte stands for itself in a string.
@@ -123,37 +129,38 @@ fn split_string(text: &str) -> Option<(&str, &str)>
     Some((&text[..len], &text[len + 1..]))
 }
 
-/// The string that is next, if it is plain and memory allows, and what stands after it.
-fn read_string(alloc: Global, text: &str) -> Option<(String, &str)>
+/// The string that is next, if it is plain, and what stands after it.
+fn read_string(text: &str) -> Option<(&str, &str)>
     ensures lexed { IfSome result (λ read.
-        lex between text.now ≡ token (string (string_bytes read.0)) ∷ lex between read.1.now) }
+        lex between text.now ≡ token (string read.0.now) ∷ lex between read.1.now) }
+    ensures passed { IfSome result (λ read. (c : Bool) → PassesPieces c text.now false read.1.now) }
     ensures shorter { IfSome result (λ read. length read.1.now < length text.now) }
 {
     let inside = behind_byte(behind_space(text), b'"')?;
     let (plain, rest) = split_string(inside)?;
-    let string = String::from_str(alloc, plain).ok()?;
-    Some((string, rest))
+    Some((plain, rest))
 }
 
 /// The value that is next, and what stands after it, unless there is more to it or memory runs out.
 #[cycle(read_value)]
-fn read_value(alloc: Global, text: &str, depth: usize) -> Option<(Value, &str)>
+fn read_value(alloc: Global, text: &str, depth: usize) -> Option<(JsonTree<'_>, &str)>
     ensures value { IfSome result (λ read. HasValue depth text.now (view read.0) read.1.now) }
+    ensures passed { IfSome result (λ read. (c : Bool) → PassesPieces c text.now false read.1.now) }
     ensures shorter { IfSome result (λ read. length read.1.now < length text.now) }
 {
-    if let Some((string, rest)) = read_string(alloc, text) {
-        return Some((Value::String(string), rest));
+    if let Some((string, rest)) = read_string(text) {
+        return Some((JsonTree::Text(string), rest));
     }
     if depth == 0 {
         return None;
     }
     if let Some(inside) = behind_mark(text, b'{') {
         let (members, rest) = read_members(alloc, inside, depth - 1)?;
-        return Some((Value::Object(members), rest));
+        return Some((JsonTree::Object(members), rest));
     }
     let inside = behind_mark(text, b'[')?;
     let (items, rest) = read_items(alloc, inside, depth - 1)?;
-    Some((Value::Array(items), rest))
+    Some((JsonTree::Array(items), rest))
 }
 
 /// Reads the item that is next.
@@ -162,10 +169,11 @@ fn read_item<'a>(
     alloc: Global,
     text: &'a str,
     depth: usize,
-    found: &mut Vec<Value>,
+    found: &mut Vec<JsonTree<'a>>,
 ) -> Option<&'a str>
     ensures value { IfSome result
         (λ rest. AddsItem depth text.now found.old.items found.new.items rest.now) }
+    ensures passed { IfSome result (λ rest. (c : Bool) → PassesPieces c text.now false rest.now) }
     ensures shorter { IfSome result (λ rest. length rest.now < length text.now) }
 {
     let (item, rest) = read_value(alloc, text, depth)?;
@@ -175,9 +183,10 @@ fn read_item<'a>(
 
 /// The items up to their closing bracket, and what stands after it.
 #[cycle(read_value)]
-fn read_items(alloc: Global, text: &str, depth: usize) -> Option<(Vec<Value>, &str)>
+fn read_items(alloc: Global, text: &str, depth: usize) -> Option<(Vec<JsonTree<'_>>, &str)>
     ensures items { IfSome result
         (λ read. HasItems depth text.now (items_view read.0.items) read.1.now) }
+    ensures passed { IfSome result (λ read. PassesPieces false text.now false read.1.now) }
     ensures shorter { IfSome result (λ read. length read.1.now < length text.now) }
 {
     let mut found = Vec::new(alloc);
@@ -198,27 +207,33 @@ fn read_member<'a>(
     alloc: Global,
     text: &'a str,
     depth: usize,
-    found: &mut Map<String, Value>,
+    found: &mut Vec<(&'a str, JsonTree<'a>)>,
 ) -> Option<&'a str>
     ensures value { IfSome result (λ rest. AddsMember depth text.now
-        (members_view found.old.entries) (members_view found.new.entries) rest.now) }
+        (members_view found.old.items) (members_view found.new.items) rest.now) }
+    ensures passed { IfSome result (λ rest. (c : Bool) → PassesPieces c text.now false rest.now) }
     ensures shorter { IfSome result (λ rest. length rest.now < length text.now) }
 {
-    let (key, behind) = read_string(alloc, text)?;
+    let (key, behind) = read_string(text)?;
     let behind = behind_mark(behind, b':')?;
     let (member, rest) = read_value(alloc, behind, depth)?;
-    drop(found.insert(key, member).ok()?);
+    found.push((key, member)).ok()?;
     Some(rest)
 }
 
 /// The members up to their closing brace, and what stands after it.
 #[cycle(read_value)]
-fn read_members(alloc: Global, text: &str, depth: usize) -> Option<(Map<String, Value>, &str)>
+fn read_members(
+    alloc: Global,
+    text: &str,
+    depth: usize,
+) -> Option<(Vec<(&str, JsonTree<'_>)>, &str)>
     ensures members { IfSome result
-        (λ read. HasMembers depth text.now (members_view read.0.entries) read.1.now) }
+        (λ read. HasMembers depth text.now (members_view read.0.items) read.1.now) }
+    ensures passed { IfSome result (λ read. PassesPieces false text.now false read.1.now) }
     ensures shorter { IfSome result (λ read. length read.1.now < length text.now) }
 {
-    let mut found = Map::new(alloc);
+    let mut found = Vec::new(alloc);
     if let Some(rest) = behind_mark(text, b'}') {
         return Some((found, rest));
     }
@@ -231,110 +246,16 @@ fn read_members(alloc: Global, text: &str, depth: usize) -> Option<(Map<String, 
 }
 
 /// The value of a JSON text: where there is none, where it has an escape, a number or a word, or
-/// where memory runs out, nothing.
+/// where memory runs out, nothing. Where there is one, the text reads as its JSON, too: it has marks,
+/// plain strings and spaces alone, and no comma before a closing mark.
 #[tactic(auto, using(crate::proofs::PlainLemmas::text_read))]
-pub fn read_plain(alloc: Global, text: &str) -> Option<Value>
-    ensures { IfSome result (λ value. read_text text.now ≡ Some (view value)) }
+pub fn read_plain(alloc: Global, text: &str) -> Option<JsonTree<'_>>
+    ensures value { IfSome result (λ value. read_text text.now ≡ Some (view value)) }
+    ensures json { IfSome result (λ _. ReadsAsJson text.now) }
 {
     let (value, rest) = read_value(alloc, text, MAX_DEPTH)?;
     if !behind_space(rest).is_empty() {
         return None;
     }
     Some(value)
-}
-
-/// Whether the byte is one of `{ } [ ] : ,`.
-fn is_mark(byte: u8) -> bool
-    ensures { result ≡ bytes.is_mark byte }
-{
-    matches!(byte, b'{' | b'}' | b'[' | b']' | b':' | b',')
-}
-
-/// Whether the text begins with a mark, such as a brace or a comma.
-fn begins_mark(text: &[u8]) -> bool
-    ensures { result ≡ bytes.begins_with bytes.is_mark text.now }
-{
-    match text {
-        [first, ..] => is_mark(*first),
-        [] => false,
-    }
-}
-
-/// Whether the byte is one of `} ]`.
-fn is_closing(byte: u8) -> bool
-    ensures { result ≡ json_text.is_closing byte }
-{
-    byte == b'}' || byte == b']'
-}
-
-/// Whether a closing mark comes first.
-fn begins_closing(text: &[u8]) -> bool
-    ensures { result ≡ bytes.begins_with json_text.is_closing text.now }
-{
-    match text {
-        [first, ..] => is_closing(*first),
-        [] => false,
-    }
-}
-
-/// Whether a closing mark comes first, after a comma.
-fn closes_behind(comma: bool, text: &[u8]) -> bool
-    ensures { result ≡ (comma && bytes.begins_with json_text.is_closing text.now) }
-{
-    comma && begins_closing(text)
-}
-
-/// What stands after a plain string that is next.
-fn behind_string(text: &[u8]) -> Option<&[u8]>
-    ensures passed { IfSome result (λ rest. (c : Bool) → PassesPiece c text.now false rest.now) }
-    ensures shorter { IfSome result (λ rest. length rest.now < length text.now) }
-{
-    if !is_next(text, b'"') {
-        return None;
-    }
-    let inside = &text[1..];
-    let len = plain_len(inside);
-    let closed = &inside[len..];
-    if !is_next(closed, b'"') {
-        return None;
-    }
-    Some(&closed[1..])
-}
-
-/// What stands after a space, a mark or a plain string that is next, and whether a comma is then the
-/// last token, by whether one was before it. A closing mark isn't taken after a comma.
-fn behind_piece(text: &[u8], comma: bool) -> Option<(&[u8], bool)>
-    ensures passed { IfSome result (λ read. PassesPiece comma text.now read.1 read.0.now) }
-    ensures shorter { IfSome result (λ read. length read.0.now < length text.now) }
-{
-    if begins_space(text) {
-        return Some((&text[1..], comma));
-    }
-    if begins_mark(text) {
-        if closes_behind(comma, text) {
-            return None;
-        }
-        return Some((&text[1..], is_next(text, b',')));
-    }
-    let rest = behind_string(text)?;
-    Some((rest, false))
-}
-
-/// Whether a text in the relaxed spelling is plain: it has marks, plain strings and spaces alone, and no
-/// comma before a closing mark, so that its JSON reads as it does.
-pub fn is_plain_text(text: &[u8]) -> bool
-    ensures { IsTrue result → ReadsAsJson text.now }
-{
-    let mut left = text;
-    let mut comma = false;
-    while !left.is_empty() {
-        match behind_piece(left, comma) {
-            Some((rest, behind)) => {
-                left = rest;
-                comma = behind;
-            }
-            None => return false,
-        }
-    }
-    true
 }

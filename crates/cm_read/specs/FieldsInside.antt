@@ -1,8 +1,13 @@
 -- Inside.
--- Lists of texts that a reader only borrows.
-use Rattle.std.specs.Prelude.{ℕ, List, map, length, Ok, Err, ◌==◌, if◌then◌else◌}
+-- Lists of texts that a reader only borrows, the members of an item, and the least of some keys.
+use Rattle.std.specs.Prelude.{ℕ, List, map, length, Option, Some, None, Ok, Err, ◌==◌, if◌then◌else◌}
 use Rattle.std.specs.Borrow.{Bor}
-use Rattle.serde_json.specs.Data.{Items}
+use Rattle.std.specs.Cmp.Lexicographic.{slice_cmp}
+use Rattle.std.specs.List.{list_any}
+use Rattle.std.specs.Ordering.{nat_cmp, match_ordering}
+use Rattle.std.specs.Str.{bytes_eq}
+use Rattle.serde_json.specs.Data.{Data, null, boolean, number, string, array, object, Items, Members}
+use Rattle.serde_json.specs.Data.{no_members}
 use Rattle.cm_names.specs.Steps.{◌>>=◌}
 use Rattle.cm_read.specs.declared.fault.ItemPlace.{ItemPlace}
 use Rattle.cm_read.specs.Numbers.{wrong_type}
@@ -12,6 +17,15 @@ use Rattle.cm_read.specs.Fields.{texts_in_at, each, name_from, reference_from}
 -- the texts themselves, of references to them
 abbrev pub map_now : List (Bor (List ℕ)) → List (List ℕ)
 map_now ts = map (λ t. t.now) ts
+
+-- the members of an object; no others have some
+abbrev pub members_in : Data → Members
+members_in null = no_members
+members_in (boolean b) = no_members
+members_in (number n) = no_members
+members_in (string s) = no_members
+members_in (array ds) = no_members
+members_in (object ms) = ms
 
 -- the texts of a list of one or more
 abbrev pub listed_texts_at : ItemPlace → List ℕ → Items → ReadResult (List (List ℕ))
@@ -30,3 +44,12 @@ abbrev pub listed_references_at : ItemPlace → List ℕ → Items → ReadResul
 listed_references_at at key ds = do
   texts ← listed_texts_at at key ds
   each (reference_from at key) texts
+
+-- the lesser one of two keys, in byte order
+abbrev pub lesser : Option (List ℕ) → List ℕ → Option (List ℕ)
+lesser None k = Some k
+lesser (Some l) k = match_ordering (slice_cmp nat_cmp k l) (Some k) (Some l) (Some l)
+
+-- the least key that isn't known, after one key more
+abbrev pub least_with : List (Bor (List ℕ)) → Option (List ℕ) → List ℕ → Option (List ℕ)
+least_with known least k = if list_any (λ w. bytes_eq w.now k) known then least else lesser least k

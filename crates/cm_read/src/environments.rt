@@ -1,7 +1,7 @@
 //! The items of `environments` and the registrations in them.
 
 ghost use Rattle.std.specs.Prelude.{◌≡◌};
-ghost use Rattle.serde_json.specs.View.{view, items_view};
+ghost use Rattle.cm_plain.specs.JsonTree.{view, items_view};
 ghost use Rattle.cm_read.specs.Environments as spec;
 ghost use Rattle.cm_read.specs.ReadingInside.{GivesReading, IsReadFault};
 
@@ -17,7 +17,7 @@ use crate::sections::SectionItem;
 use crate::words::{extends_of, static_from_of};
 use cm_decl::{Child, Environment, Kind, Registration};
 use cm_names::{List, Name};
-use serde_json::Value;
+use cm_plain::JsonTree;
 use std::alloc::Global;
 
 /// The field of an environment that lists the registrations.
@@ -32,7 +32,11 @@ fn registry_word(which: Registry) -> &'static str
 
 /// The name of a runner, of which an item has one.
 #[tactic(auto, unfolding(crate::specs::Environments::runner_names_at))]
-fn runner_names_of(alloc: Global, at: ItemPlace, item: &Value) -> Result<List<Name>, ReadFault>
+fn runner_names_of(
+    alloc: Global,
+    at: ItemPlace,
+    item: &JsonTree<'_>,
+) -> Result<List<Name>, ReadFault>
     ensures { GivesReading result (spec.runner_names_at at (view item.now)) }
 {
     let name = name_of(alloc, at, item, "runner")?;
@@ -44,7 +48,7 @@ fn registration_names_of(
     alloc: Global,
     which: Registry,
     at: ItemPlace,
-    item: &Value,
+    item: &JsonTree<'_>,
 ) -> Result<List<Name>, ReadFault>
     ensures { GivesReading result (spec.registration_names_at which at (view item.now)) }
 {
@@ -60,7 +64,7 @@ fn registered(
     alloc: Global,
     at: ItemPlace,
     names: &[Name],
-    item: &Value,
+    item: &JsonTree<'_>,
 ) -> Result<List<Registration>, ReadFault>
     ensures { GivesReading result (spec.registered_at at names.now (view item.now)) }
 {
@@ -78,7 +82,7 @@ fn registration_of(
     alloc: Global,
     which: Registry,
     at: ItemPlace,
-    item: &Value,
+    item: &JsonTree<'_>,
 ) -> Result<List<Registration>, ReadFault>
     ensures { GivesReading result (spec.registration_at which at (view item.now)) }
 {
@@ -93,7 +97,7 @@ fn registrations_in(
     alloc: Global,
     which: Registry,
     at: ItemPlace,
-    items: &[Value],
+    items: &[JsonTree<'_>],
 ) -> Result<List<Registration>, ReadFault>
     ensures { GivesReading result (spec.registrations_in_at which at (items_view items.now)) }
 {
@@ -125,7 +129,7 @@ fn registry_in(
     alloc: Global,
     which: Registry,
     at: ItemPlace,
-    value: &Value,
+    value: &JsonTree<'_>,
 ) -> Result<List<Registration>, ReadFault>
     ensures { GivesReading result (spec.registry_in_at which at (view value.now)) }
 {
@@ -144,7 +148,7 @@ fn registry_of(
     alloc: Global,
     which: Registry,
     at: ItemPlace,
-    item: &Value,
+    item: &JsonTree<'_>,
 ) -> Result<List<Registration>, ReadFault>
     ensures { GivesReading result (spec.registry_at which at (view item.now)) }
 {
@@ -159,7 +163,7 @@ fn registry_of(
 fn environment_row(
     alloc: Global,
     at: ItemPlace,
-    item: &Value,
+    item: &JsonTree<'_>,
 ) -> Result<List<Environment>, ReadFault>
     ensures { GivesReading result (spec.environment_row_at at (view item.now)) }
 {
@@ -194,7 +198,7 @@ impl SectionItem for Environment {
         alloc: Global,
         at: ItemPlace,
         _children: &[Child],
-        item: &Value,
+        item: &JsonTree<'_>,
     ) -> Result<List<Environment>, ReadFault> {
         let members = object_of(alloc, at, item)?;
         check_keys(alloc, at, Object::Environment, members)?;

@@ -3,9 +3,10 @@
 ghost use Rattle.std.specs.Prelude.{◌≡◌, option_map};
 ghost use Rattle.std.specs.List.{list_any};
 ghost use Rattle.std.specs.Str.{bytes_eq};
-ghost use Rattle.serde_json.specs.View.{view, members_view, items_view};
+ghost use Rattle.cm_plain.specs.JsonTree.{view, members_view, items_view};
 ghost use Rattle.cm_read.specs.Fields as spec;
 ghost use Rattle.cm_read.specs.FieldsInside.{map_now, listed_texts_at, listed_names_at, listed_references_at};
+ghost use Rattle.cm_read.specs.FieldsInside as spec_inside;
 ghost use Rattle.cm_read.specs.ReadingInside.{GivesReading, GivesBy};
 
 use crate::fault::{ItemPlace, ReadFault, fault};
@@ -15,16 +16,17 @@ use crate::number::{
 use crate::rows::one_row;
 use cm_names::url::is_url_text;
 use cm_names::{CapPath, List, Name, NameFault, PathFault, Rights, SubDir, Text};
-use serde_json::{Map, Value};
+use cm_plain::JsonTree;
 use std::alloc::Global;
+use std::cmp::Ordering;
 
 /// The value of a field that has to be there.
-pub fn needed<'a>(
+pub fn needed<'a, 'b>(
     alloc: Global,
     at: ItemPlace,
-    item: &'a Value,
+    item: &'a JsonTree<'b>,
     key: &str,
-) -> Result<&'a Value, ReadFault>
+) -> Result<&'a JsonTree<'b>, ReadFault>
     ensures { GivesBy (λ v. view v.now) result (spec.needed_at at key.now (view item.now)) }
 {
     match item.get(key) {
@@ -37,7 +39,7 @@ pub fn needed<'a>(
 pub fn text_of<'a>(
     alloc: Global,
     at: ItemPlace,
-    value: &'a Value,
+    value: &'a JsonTree<'_>,
     key: &str,
 ) -> Result<&'a str, ReadFault>
     ensures { GivesBy (λ s. s.now) result (spec.text_at at key.now (view value.now)) }
@@ -83,7 +85,12 @@ fn subdir_from(alloc: Global, at: ItemPlace, key: &str, text: &str) -> Result<Su
 
 /// The name that a value is.
 #[tactic(auto, unfolding(crate::specs::Fields::name_in_at))]
-pub fn name_in(alloc: Global, at: ItemPlace, value: &Value, key: &str) -> Result<Name, ReadFault>
+pub fn name_in(
+    alloc: Global,
+    at: ItemPlace,
+    value: &JsonTree<'_>,
+    key: &str,
+) -> Result<Name, ReadFault>
     ensures { GivesReading result (spec.name_in_at at key.now (view value.now)) }
 {
     let text = text_of(alloc, at, value, key)?;
@@ -92,7 +99,12 @@ pub fn name_in(alloc: Global, at: ItemPlace, value: &Value, key: &str) -> Result
 
 /// The name in a field that has to be there.
 #[tactic(auto, unfolding(crate::specs::Fields::name_at))]
-pub fn name_of(alloc: Global, at: ItemPlace, item: &Value, key: &str) -> Result<Name, ReadFault>
+pub fn name_of(
+    alloc: Global,
+    at: ItemPlace,
+    item: &JsonTree<'_>,
+    key: &str,
+) -> Result<Name, ReadFault>
     ensures { GivesReading result (spec.name_at at key.now (view item.now)) }
 {
     let value = needed(alloc, at, item, key)?;
@@ -101,7 +113,12 @@ pub fn name_of(alloc: Global, at: ItemPlace, item: &Value, key: &str) -> Result<
 
 /// The URL text in a field that has to be there.
 #[tactic(auto, unfolding(crate::specs::Fields::url_at))]
-pub fn url_of(alloc: Global, at: ItemPlace, item: &Value, key: &str) -> Result<Text, ReadFault>
+pub fn url_of(
+    alloc: Global,
+    at: ItemPlace,
+    item: &JsonTree<'_>,
+    key: &str,
+) -> Result<Text, ReadFault>
     ensures { GivesReading result (spec.url_at at key.now (view item.now)) }
 {
     let value = needed(alloc, at, item, key)?;
@@ -114,7 +131,12 @@ pub fn url_of(alloc: Global, at: ItemPlace, item: &Value, key: &str) -> Result<T
 
 /// The path that a value is.
 #[tactic(auto, unfolding(crate::specs::Fields::path_in_at))]
-pub fn path_in(alloc: Global, at: ItemPlace, value: &Value, key: &str) -> Result<CapPath, ReadFault>
+pub fn path_in(
+    alloc: Global,
+    at: ItemPlace,
+    value: &JsonTree<'_>,
+    key: &str,
+) -> Result<CapPath, ReadFault>
     ensures { GivesReading result (spec.path_in_at at key.now (view value.now)) }
 {
     let text = text_of(alloc, at, value, key)?;
@@ -123,7 +145,12 @@ pub fn path_in(alloc: Global, at: ItemPlace, value: &Value, key: &str) -> Result
 
 /// The path in a field that has to be there.
 #[tactic(auto, unfolding(crate::specs::Fields::path_at))]
-pub fn path_of(alloc: Global, at: ItemPlace, item: &Value, key: &str) -> Result<CapPath, ReadFault>
+pub fn path_of(
+    alloc: Global,
+    at: ItemPlace,
+    item: &JsonTree<'_>,
+    key: &str,
+) -> Result<CapPath, ReadFault>
     ensures { GivesReading result (spec.path_at at key.now (view item.now)) }
 {
     let value = needed(alloc, at, item, key)?;
@@ -132,7 +159,12 @@ pub fn path_of(alloc: Global, at: ItemPlace, item: &Value, key: &str) -> Result<
 
 /// The subdirectory that a value is.
 #[tactic(auto, unfolding(crate::specs::Fields::subdir_in_at))]
-fn subdir_in(alloc: Global, at: ItemPlace, value: &Value, key: &str) -> Result<SubDir, ReadFault>
+fn subdir_in(
+    alloc: Global,
+    at: ItemPlace,
+    value: &JsonTree<'_>,
+    key: &str,
+) -> Result<SubDir, ReadFault>
     ensures { GivesReading result (spec.subdir_in_at at key.now (view value.now)) }
 {
     let text = text_of(alloc, at, value, key)?;
@@ -144,7 +176,7 @@ fn subdir_in(alloc: Global, at: ItemPlace, value: &Value, key: &str) -> Result<S
 pub fn subdir_of(
     alloc: Global,
     at: ItemPlace,
-    item: &Value,
+    item: &JsonTree<'_>,
     key: &str,
 ) -> Result<Option<SubDir>, ReadFault>
     ensures { GivesReading result (spec.subdir_at at key.now (view item.now)) }
@@ -160,7 +192,7 @@ pub fn subdir_of(
 fn texts_in(
     alloc: Global,
     at: ItemPlace,
-    values: &[Value],
+    values: &[JsonTree<'_>],
     key: &str,
 ) -> Result<List<Text>, ReadFault>
     ensures { GivesReading result (spec.texts_in_at at key.now (items_view values.now)) }
@@ -177,7 +209,7 @@ fn texts_in(
 fn words_in<'a>(
     alloc: Global,
     at: ItemPlace,
-    values: &'a [Value],
+    values: &'a [JsonTree<'_>],
     key: &str,
 ) -> Result<Vec<&'a str>, ReadFault>
     ensures { GivesBy (λ words. map_now words.items) result
@@ -195,7 +227,7 @@ fn words_in<'a>(
 fn words_of<'a>(
     alloc: Global,
     at: ItemPlace,
-    values: &'a [Value],
+    values: &'a [JsonTree<'_>],
     key: &str,
 ) -> Result<Vec<&'a str>, ReadFault>
     ensures { GivesBy (λ words. map_now words.items) result
@@ -228,7 +260,7 @@ fn each_name(
 fn listed_names(
     alloc: Global,
     at: ItemPlace,
-    values: &[Value],
+    values: &[JsonTree<'_>],
     key: &str,
 ) -> Result<List<Name>, ReadFault>
     ensures { GivesReading result (listed_names_at at key.now (items_view values.now)) }
@@ -242,13 +274,13 @@ fn listed_names(
 pub fn names_of(
     alloc: Global,
     at: ItemPlace,
-    value: &Value,
+    value: &JsonTree<'_>,
     key: &str,
 ) -> Result<List<Name>, ReadFault>
     ensures { GivesReading result (spec.names_at at key.now (view value.now)) }
 {
     match value {
-        Value::Array(values) => listed_names(alloc, at, values.as_slice(), key),
+        JsonTree::Array(values) => listed_names(alloc, at, values.as_slice(), key),
         _ => {
             let text = text_of(alloc, at, value, key)?;
             let name = name_from(alloc, at, key, text)?;
@@ -294,7 +326,7 @@ fn each_reference(
 fn listed_references(
     alloc: Global,
     at: ItemPlace,
-    values: &[Value],
+    values: &[JsonTree<'_>],
     key: &str,
 ) -> Result<List<Name>, ReadFault>
     ensures { GivesReading result (listed_references_at at key.now (items_view values.now)) }
@@ -308,13 +340,13 @@ fn listed_references(
 pub fn references_of(
     alloc: Global,
     at: ItemPlace,
-    value: &Value,
+    value: &JsonTree<'_>,
     key: &str,
 ) -> Result<List<Name>, ReadFault>
     ensures { GivesReading result (spec.references_at at key.now (view value.now)) }
 {
     match value {
-        Value::Array(values) => listed_references(alloc, at, values.as_slice(), key),
+        JsonTree::Array(values) => listed_references(alloc, at, values.as_slice(), key),
         _ => {
             let text = text_of(alloc, at, value, key)?;
             let name = reference_from(alloc, at, key, text)?;
@@ -328,7 +360,7 @@ pub fn references_of(
 pub fn rights_in(
     alloc: Global,
     at: ItemPlace,
-    value: &Value,
+    value: &JsonTree<'_>,
     key: &str,
 ) -> Result<Rights, ReadFault>
     ensures { GivesReading result (spec.rights_in_at at key.now (view value.now)) }
@@ -345,7 +377,12 @@ pub fn rights_in(
 
 /// The rights in a field that has to be there.
 #[tactic(auto, unfolding(crate::specs::Fields::rights_at))]
-pub fn rights_of(alloc: Global, at: ItemPlace, item: &Value, key: &str) -> Result<Rights, ReadFault>
+pub fn rights_of(
+    alloc: Global,
+    at: ItemPlace,
+    item: &JsonTree<'_>,
+    key: &str,
+) -> Result<Rights, ReadFault>
     ensures { GivesReading result (spec.rights_at at key.now (view item.now)) }
 {
     let value = needed(alloc, at, item, key)?;
@@ -359,45 +396,82 @@ fn is_known(known: &[&str], key: &str) -> bool
     known.iter().any(|word| *word == key)
 }
 
-/// The first key that isn't known, in byte order.
-fn unknown_key<'a>(map: &'a Map<String, Value>, known: &[&str]) -> Option<&'a str>
+/// The lesser one of two keys, in byte order.
+fn lesser<'a>(least: Option<&'a str>, key: &'a str) -> Option<&'a str>
     ensures { option_map (λ s. s.now) result
-        ≡ spec.unknown_in (map_now known.now) (members_view map.now.entries) }
+        ≡ spec_inside.lesser (option_map (λ s. s.now) least.entry) key.now }
 {
-    for key in map.keys() {
-        if !is_known(known, key.as_str()) {
-            return Some(key.as_str());
-        }
+    match least {
+        None => Some(key),
+        Some(other) => match key.cmp(other) {
+            Ordering::Less => Some(key),
+            Ordering::Equal | Ordering::Greater => Some(other),
+        },
     }
-    None
 }
 
-/// The members of an item, which has to be an object.
-pub fn object_of<'a>(
+/// The least unknown key after one key more.
+fn least_with<'a>(known: &[&str], least: Option<&'a str>, key: &'a str) -> Option<&'a str>
+    ensures { option_map (λ s. s.now) result
+        ≡ spec_inside.least_with known.now (option_map (λ s. s.now) least.entry) key.now }
+{
+    if is_known(known, key) {
+        least
+    } else {
+        lesser(least, key)
+    }
+}
+
+/// The first key that isn't known, in byte order.
+#[tactic(auto, using(crate::proofs::reading::Keys::least_is_first))]
+fn unknown_key<'a>(members: &[(&'a str, JsonTree<'a>)], known: &[&str]) -> Option<&'a str>
+    ensures { option_map (λ s. s.now) result
+        ≡ spec.unknown_in (map_now known.now) (members_view members.now) }
+{
+    let mut least = None;
+    for member in members {
+        least = least_with(known, least, member.0);
+    }
+    least
+}
+
+/// The first key of an item that isn't known, in byte order.
+fn unknown_of<'a>(item: &JsonTree<'a>, known: &[&str]) -> Option<&'a str>
+    ensures { option_map (λ s. s.now) result
+        ≡ spec.unknown_in (map_now known.now) (spec_inside.members_in (view item.now)) }
+{
+    match item {
+        JsonTree::Object(members) => unknown_key(members.as_slice(), known),
+        _ => None,
+    }
+}
+
+/// The item, which has to be an object.
+pub fn object_of<'a, 'b>(
     alloc: Global,
     at: ItemPlace,
-    item: &'a Value,
-) -> Result<&'a Map<String, Value>, ReadFault>
-    ensures { GivesBy (λ m. members_view m.now.entries) result
+    item: &'a JsonTree<'b>,
+) -> Result<&'a JsonTree<'b>, ReadFault>
+    ensures { GivesBy (λ m. spec_inside.members_in (view m.now)) result
         (spec.object_at at (view item.now)) }
 {
-    match item.as_object() {
-        Some(members) => Ok(members),
-        None => Err(fault(alloc, at, WRONG_TYPE, "")),
+    match item {
+        JsonTree::Object(_) => Ok(item),
+        _ => Err(fault(alloc, at, WRONG_TYPE, "")),
     }
 }
 
-/// The least key that isn't among the known ones is refused.
+/// The least key of an item that isn't among the known ones is refused.
 pub fn check_known(
     alloc: Global,
     at: ItemPlace,
-    members: &Map<String, Value>,
+    item: &JsonTree<'_>,
     known: &[&str],
 ) -> Result<(), ReadFault>
     ensures { GivesReading result
-        (spec.known_at at (map_now known.now) (members_view members.now.entries)) }
+        (spec.known_at at (map_now known.now) (spec_inside.members_in (view item.now))) }
 {
-    match unknown_key(members, known) {
+    match unknown_of(item, known) {
         Some(key) => Err(fault(alloc, at, UNKNOWN_FIELD, key)),
         None => Ok(()),
     }

@@ -2,7 +2,7 @@
 
 ghost use Rattle.std.specs.Prelude.{◌≡◌, map, IfOk};
 ghost use Rattle.std.specs.List.{flat_map};
-ghost use Rattle.serde_json.specs.View.{view};
+ghost use Rattle.cm_plain.specs.JsonTree.{view};
 ghost use Rattle.cm_read.specs.Items as spec;
 ghost use Rattle.cm_read.specs.Parts as parts;
 ghost use Rattle.cm_read.specs.ReadingInside.{GivesReading};
@@ -22,12 +22,17 @@ use crate::words::{
 };
 use cm_decl::{Child, Give, Kind, Origin};
 use cm_names::{Dependency, List, Memory, Name, Rights};
-use serde_json::Value;
+use cm_plain::JsonTree;
 use std::alloc::Global;
 
 /// The target name that a value is.
 #[tactic(auto, unfolding(crate::specs::Items::as_in_at))]
-fn as_in(alloc: Global, at: ItemPlace, names: &[Name], value: &Value) -> Result<Name, ReadFault>
+fn as_in(
+    alloc: Global,
+    at: ItemPlace,
+    names: &[Name],
+    value: &JsonTree<'_>,
+) -> Result<Name, ReadFault>
     ensures { GivesReading result (spec.as_in_at at names.now (view value.now)) }
 {
     let name = name_in(alloc, at, value, "as")?;
@@ -43,7 +48,7 @@ pub fn as_of(
     alloc: Global,
     at: ItemPlace,
     names: &[Name],
-    item: &Value,
+    item: &JsonTree<'_>,
 ) -> Result<Option<Name>, ReadFault>
     ensures { GivesReading result (spec.as_at at names.now (view item.now)) }
 {
@@ -56,7 +61,11 @@ pub fn as_of(
 
 /// The rights that an offer or an expose states, if it does.
 #[tactic(auto, unfolding(crate::specs::Items::given_rights_at))]
-fn given_rights_of(alloc: Global, at: ItemPlace, item: &Value) -> Result<Option<Rights>, ReadFault>
+fn given_rights_of(
+    alloc: Global,
+    at: ItemPlace,
+    item: &JsonTree<'_>,
+) -> Result<Option<Rights>, ReadFault>
     ensures { GivesReading result (spec.given_rights_at at (view item.now)) }
 {
     let Some(value) = item.get("rights") else {
@@ -68,7 +77,7 @@ fn given_rights_of(alloc: Global, at: ItemPlace, item: &Value) -> Result<Option<
 
 /// `to` of an offer, which has to be there.
 #[tactic(auto, unfolding(crate::specs::Items::targets_at))]
-fn targets_of(alloc: Global, at: ItemPlace, item: &Value) -> Result<List<Name>, ReadFault>
+fn targets_of(alloc: Global, at: ItemPlace, item: &JsonTree<'_>) -> Result<List<Name>, ReadFault>
     ensures { GivesReading result (spec.targets_at at (view item.now)) }
 {
     let value = needed(alloc, at, item, "to")?;
@@ -82,7 +91,7 @@ fn asked_of(
     at: ItemPlace,
     names: &[Name],
     dependency: Result<Dependency, ReadFault>,
-    item: &Value,
+    item: &JsonTree<'_>,
 ) -> Result<AskedTerms, ReadFault>
     ensures { parts.GivesAsked dependency at names.now (view item.now) result }
 {
@@ -160,7 +169,7 @@ fn offered(
     at: ItemPlace,
     children: &[Child],
     names: &[Name],
-    item: &Value,
+    item: &JsonTree<'_>,
 ) -> Result<List<OfferRow>, ReadFault>
     ensures { GivesReading result (spec.offered_at kind children.now at names.now (view item.now)) }
 {
@@ -180,7 +189,7 @@ fn routed_offer(
     kind: Kind,
     at: ItemPlace,
     children: &[Child],
-    item: &Value,
+    item: &JsonTree<'_>,
 ) -> Result<List<OfferRow>, ReadFault>
     ensures { GivesReading result (spec.routed_offer_at kind children.now at (view item.now)) }
 {
@@ -194,7 +203,7 @@ fn storages_offered(
     alloc: Global,
     at: ItemPlace,
     names: &[Name],
-    item: &Value,
+    item: &JsonTree<'_>,
 ) -> Result<List<OfferRow>, ReadFault>
     ensures { GivesReading result (spec.storages_offered_at at names.now (view item.now)) }
 {
@@ -214,7 +223,11 @@ fn storages_offered(
 
 /// The rows of a storage that is offered; its availability isn't kept.
 #[tactic(auto, unfolding(crate::specs::Items::storage_offer_at))]
-fn storage_offer(alloc: Global, at: ItemPlace, item: &Value) -> Result<List<OfferRow>, ReadFault>
+fn storage_offer(
+    alloc: Global,
+    at: ItemPlace,
+    item: &JsonTree<'_>,
+) -> Result<List<OfferRow>, ReadFault>
     ensures { GivesReading result (spec.storage_offer_at at (view item.now)) }
 {
     let names = storage_names_of(alloc, at, item)?;
@@ -233,7 +246,7 @@ impl SectionItem for OfferRow {
         alloc: Global,
         at: ItemPlace,
         children: &[Child],
-        item: &Value,
+        item: &JsonTree<'_>,
     ) -> Result<List<OfferRow>, ReadFault> {
         let members = object_of(alloc, at, item)?;
         let sort = sort_of(alloc, at, item)?;
@@ -260,7 +273,7 @@ fn exposed(
     at: ItemPlace,
     children: &[Child],
     names: &[Name],
-    item: &Value,
+    item: &JsonTree<'_>,
 ) -> Result<List<Give>, ReadFault>
     ensures { GivesReading result (spec.exposed_at kind children.now at names.now (view item.now)) }
 {
@@ -288,7 +301,7 @@ impl SectionItem for Give {
         alloc: Global,
         at: ItemPlace,
         children: &[Child],
-        item: &Value,
+        item: &JsonTree<'_>,
     ) -> Result<List<Give>, ReadFault> {
         let members = object_of(alloc, at, item)?;
         let kind = kind_of(alloc, at, item)?;

@@ -1,7 +1,7 @@
 //! The items of `children`, `collections`, `capabilities` and `use`.
 
 ghost use Rattle.std.specs.Prelude.{◌≡◌};
-ghost use Rattle.serde_json.specs.View.{view};
+ghost use Rattle.cm_plain.specs.JsonTree.{view};
 ghost use Rattle.cm_read.specs.Items as spec;
 ghost use Rattle.cm_read.specs.ReadingInside.{GivesReading};
 
@@ -21,13 +21,13 @@ use crate::words::{
 };
 use cm_decl::{Capability, Child, Collection, Kind, Usage};
 use cm_names::{CapPath, List, Name};
+use cm_plain::JsonTree;
 use cm_write::word_of;
-use serde_json::Value;
 use std::alloc::Global;
 
 /// The row of an item of `children`, whose fields are known.
 #[tactic(auto, unfolding(crate::specs::Items::child_row_at))]
-fn child_row(alloc: Global, at: ItemPlace, item: &Value) -> Result<List<Child>, ReadFault>
+fn child_row(alloc: Global, at: ItemPlace, item: &JsonTree<'_>) -> Result<List<Child>, ReadFault>
     ensures { GivesReading result (spec.child_row_at at (view item.now)) }
 {
     let read = both(
@@ -58,7 +58,7 @@ impl SectionItem for Child {
         alloc: Global,
         at: ItemPlace,
         _children: &[Child],
-        item: &Value,
+        item: &JsonTree<'_>,
     ) -> Result<List<Child>, ReadFault> {
         let members = object_of(alloc, at, item)?;
         check_keys(alloc, at, Object::Child, members)?;
@@ -68,7 +68,11 @@ impl SectionItem for Child {
 
 /// The row of an item of `collections`, whose fields are known.
 #[tactic(auto, unfolding(crate::specs::Items::collection_row_at))]
-fn collection_row(alloc: Global, at: ItemPlace, item: &Value) -> Result<List<Collection>, ReadFault>
+fn collection_row(
+    alloc: Global,
+    at: ItemPlace,
+    item: &JsonTree<'_>,
+) -> Result<List<Collection>, ReadFault>
     ensures { GivesReading result (spec.collection_row_at at (view item.now)) }
 {
     let read = both(
@@ -102,7 +106,7 @@ impl SectionItem for Collection {
         alloc: Global,
         at: ItemPlace,
         _children: &[Child],
-        item: &Value,
+        item: &JsonTree<'_>,
     ) -> Result<List<Collection>, ReadFault> {
         let members = object_of(alloc, at, item)?;
         check_keys(alloc, at, Object::Collection, members)?;
@@ -113,7 +117,7 @@ impl SectionItem for Collection {
 /// What an item of a manifest is about: a protocol, a directory or a storage, by the one field of these
 /// three that it has.
 #[tactic(auto, unfolding(crate::specs::Items::sort_at))]
-pub fn sort_of(alloc: Global, at: ItemPlace, item: &Value) -> Result<Sort, ReadFault>
+pub fn sort_of(alloc: Global, at: ItemPlace, item: &JsonTree<'_>) -> Result<Sort, ReadFault>
     ensures { GivesReading result (spec.sort_at at (view item.now)) }
 {
     match (
@@ -130,7 +134,7 @@ pub fn sort_of(alloc: Global, at: ItemPlace, item: &Value) -> Result<Sort, ReadF
 
 /// The kind of an item with exactly one of the two fields.
 #[tactic(auto, unfolding(crate::specs::Items::kind_at))]
-pub fn kind_of(alloc: Global, at: ItemPlace, item: &Value) -> Result<Kind, ReadFault>
+pub fn kind_of(alloc: Global, at: ItemPlace, item: &JsonTree<'_>) -> Result<Kind, ReadFault>
     ensures { GivesReading result (spec.kind_at at (view item.now)) }
 {
     match (item.get("protocol"), item.get("directory")) {
@@ -142,7 +146,7 @@ pub fn kind_of(alloc: Global, at: ItemPlace, item: &Value) -> Result<Kind, ReadF
 
 /// The name of a directory that is provided or used.
 #[tactic(auto, unfolding(crate::specs::Items::directory_name_at))]
-fn directory_name_of(alloc: Global, at: ItemPlace, item: &Value) -> Result<Name, ReadFault>
+fn directory_name_of(alloc: Global, at: ItemPlace, item: &JsonTree<'_>) -> Result<Name, ReadFault>
     ensures { GivesReading result (spec.directory_name_at at (view item.now)) }
 {
     name_of(alloc, at, item, "directory")
@@ -154,7 +158,7 @@ pub fn item_names_of(
     alloc: Global,
     kind: Kind,
     at: ItemPlace,
-    item: &Value,
+    item: &JsonTree<'_>,
 ) -> Result<List<Name>, ReadFault>
     ensures { GivesReading result (spec.item_names_at kind at (view item.now)) }
 {
@@ -168,7 +172,7 @@ fn protocol_path_in(
     alloc: Global,
     at: ItemPlace,
     names: &[Name],
-    value: &Value,
+    value: &JsonTree<'_>,
 ) -> Result<CapPath, ReadFault>
     ensures { GivesReading result (spec.protocol_path_in_at at names.now (view value.now)) }
 {
@@ -185,7 +189,7 @@ fn protocol_path_of(
     alloc: Global,
     at: ItemPlace,
     names: &[Name],
-    item: &Value,
+    item: &JsonTree<'_>,
 ) -> Result<Option<CapPath>, ReadFault>
     ensures { GivesReading result (spec.protocol_path_at at names.now (view item.now)) }
 {
@@ -201,7 +205,7 @@ fn protocol_path_of(
 fn protocol_capability(
     alloc: Global,
     at: ItemPlace,
-    item: &Value,
+    item: &JsonTree<'_>,
 ) -> Result<List<CapabilityRow>, ReadFault>
     ensures { GivesReading result (spec.protocol_capability_at at (view item.now)) }
 {
@@ -215,7 +219,7 @@ fn protocol_capability(
 fn directory_capability(
     alloc: Global,
     at: ItemPlace,
-    item: &Value,
+    item: &JsonTree<'_>,
 ) -> Result<List<CapabilityRow>, ReadFault>
     ensures { GivesReading result (spec.directory_capability_at at (view item.now)) }
 {
@@ -247,7 +251,7 @@ impl SectionItem for CapabilityRow {
         alloc: Global,
         at: ItemPlace,
         _children: &[Child],
-        item: &Value,
+        item: &JsonTree<'_>,
     ) -> Result<List<CapabilityRow>, ReadFault> {
         let members = object_of(alloc, at, item)?;
         let sort = sort_of(alloc, at, item)?;
@@ -266,7 +270,7 @@ fn protocols_used(
     alloc: Global,
     at: ItemPlace,
     names: &[Name],
-    item: &Value,
+    item: &JsonTree<'_>,
 ) -> Result<List<UseRow>, ReadFault>
     ensures { GivesReading result (spec.protocols_used_at at names.now (view item.now)) }
 {
@@ -286,7 +290,11 @@ fn protocols_used(
 
 /// The rows of a protocol that is used, one for each name.
 #[tactic(auto, unfolding(crate::specs::Items::protocol_use_at))]
-fn protocol_use(alloc: Global, at: ItemPlace, item: &Value) -> Result<List<UseRow>, ReadFault>
+fn protocol_use(
+    alloc: Global,
+    at: ItemPlace,
+    item: &JsonTree<'_>,
+) -> Result<List<UseRow>, ReadFault>
     ensures { GivesReading result (spec.protocol_use_at at (view item.now)) }
 {
     let names = item_names_of(alloc, Kind::Protocol, at, item)?;
@@ -295,7 +303,11 @@ fn protocol_use(alloc: Global, at: ItemPlace, item: &Value) -> Result<List<UseRo
 
 /// The row of a directory that is used.
 #[tactic(auto, unfolding(crate::specs::Items::directory_use_at))]
-fn directory_use(alloc: Global, at: ItemPlace, item: &Value) -> Result<List<UseRow>, ReadFault>
+fn directory_use(
+    alloc: Global,
+    at: ItemPlace,
+    item: &JsonTree<'_>,
+) -> Result<List<UseRow>, ReadFault>
     ensures { GivesReading result (spec.directory_use_at at (view item.now)) }
 {
     let read = both(
@@ -342,7 +354,7 @@ impl SectionItem for UseRow {
         alloc: Global,
         at: ItemPlace,
         _children: &[Child],
-        item: &Value,
+        item: &JsonTree<'_>,
     ) -> Result<List<UseRow>, ReadFault> {
         let members = object_of(alloc, at, item)?;
         let sort = sort_of(alloc, at, item)?;

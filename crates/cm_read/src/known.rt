@@ -1,9 +1,9 @@
 //! The keys that are known in an object of a manifest.
 
 ghost use Rattle.std.specs.Prelude.{◌≡◌};
-ghost use Rattle.serde_json.specs.View.{members_view};
+ghost use Rattle.cm_plain.specs.JsonTree.{view};
 ghost use Rattle.cm_read.specs.Fields.{known_at};
-ghost use Rattle.cm_read.specs.FieldsInside.{map_now};
+ghost use Rattle.cm_read.specs.FieldsInside.{map_now, members_in};
 ghost use Rattle.cm_read.specs.Items.{capability_fields, use_fields, offer_fields, expose_fields};
 ghost use Rattle.cm_read.specs.Known as spec;
 ghost use Rattle.cm_read.specs.ReadingInside.{GivesReading};
@@ -12,7 +12,7 @@ use crate::fault::{ItemPlace, ReadFault};
 use crate::fields::check_known;
 use crate::rows::{Registry, Sort};
 use cm_decl::Kind;
-use serde_json::{Map, Value};
+use cm_plain::JsonTree;
 use std::alloc::Global;
 
 /// An object of a manifest.
@@ -158,14 +158,14 @@ fn keys_of(object: Object) -> &'static [&'static str]
     }
 }
 
-/// The members of an object have known keys alone.
+/// An object has known keys alone.
 pub fn check_keys(
     alloc: Global,
     at: ItemPlace,
     object: Object,
-    members: &Map<String, Value>,
+    item: &JsonTree<'_>,
 ) -> Result<(), ReadFault>
-    ensures { GivesReading result (known_at at (spec.keys_of object) (members_view members.now.entries)) }
+    ensures { GivesReading result (known_at at (spec.keys_of object) (members_in (view item.now))) }
 {
-    check_known(alloc, at, members, keys_of(object))
+    check_known(alloc, at, item, keys_of(object))
 }

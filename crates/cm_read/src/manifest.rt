@@ -2,7 +2,8 @@
 
 ghost use Rattle.std.specs.Prelude.{◌≡◌, ◌<◌, ◌^◌, length, IfOk, IsTrue};
 ghost use Rattle.serde_json.specs.Find.{get};
-ghost use Rattle.serde_json.specs.View.{view};
+ghost use Rattle.serde_json.specs.View as json;
+ghost use Rattle.cm_plain.specs.JsonTree.{view};
 ghost use Rattle.cm_text.specs.Json.{json_of};
 ghost use Rattle.cm_decl.specs.Valid.{is_well_formed};
 ghost use Rattle.cm_read.specs.Manifest as spec;
@@ -19,7 +20,7 @@ use crate::rows::SectionRows;
 use crate::sections::{SectionItem, section_of};
 use cm_decl::{Child, Decl, Section};
 use cm_names::{List, Memory, Name, Text};
-use cm_plain::{is_plain_text, read_plain};
+use cm_plain::{JsonTree, read_plain, tree_of};
 use cm_text::TextFault;
 use serde_json::Value;
 use std::alloc::Global;
@@ -29,7 +30,7 @@ const MAX_BYTES: usize = 1_048_576;
 
 /// The runner that `program` names; its other members aren't looked at.
 #[tactic(auto, unfolding(crate::specs::Manifest::program_at))]
-fn program_in(alloc: Global, value: &Value) -> Result<Name, ReadFault>
+fn program_in(alloc: Global, value: &JsonTree<'_>) -> Result<Name, ReadFault>
     ensures { GivesReading result (spec.program_at (view value.now)) }
 {
     object_of(alloc, start(Section::Program), value)?;
@@ -38,7 +39,7 @@ fn program_in(alloc: Global, value: &Value) -> Result<Name, ReadFault>
 
 /// The runner, if there is a program.
 #[tactic(auto, unfolding(crate::specs::Manifest::runner_at))]
-fn runner_of(alloc: Global, value: &Value) -> Result<Option<Name>, ReadFault>
+fn runner_of(alloc: Global, value: &JsonTree<'_>) -> Result<Option<Name>, ReadFault>
     ensures { GivesReading result (spec.runner_at (view value.now)) }
 {
     let Some(value) = value.get("program") else {
@@ -50,18 +51,18 @@ fn runner_of(alloc: Global, value: &Value) -> Result<Option<Name>, ReadFault>
 
 /// The manifest is an object with known sections alone.
 #[tactic(auto, unfolding(crate::specs::Manifest::sections_at))]
-fn check_sections(alloc: Global, value: &Value) -> Result<(), ReadFault>
+fn check_sections(alloc: Global, value: &JsonTree<'_>) -> Result<(), ReadFault>
     ensures { GivesReading result (spec.sections_at (view value.now)) }
 {
-    let Some(members) = value.as_object() else {
-        return Err(whole(alloc, NOT_OBJECT));
-    };
-    check_keys(alloc, start(Section::Manifest), Object::Manifest, members)
+    match value {
+        JsonTree::Object(_) => check_keys(alloc, start(Section::Manifest), Object::Manifest, value),
+        _ => Err(whole(alloc, NOT_OBJECT)),
+    }
 }
 
 /// The declared children, which are read before all other sections.
 #[tactic(auto, unfolding(crate::specs::Manifest::children_at))]
-fn children_of(alloc: Global, value: &Value) -> Result<List<Child>, ReadFault>
+fn children_of(alloc: Global, value: &JsonTree<'_>) -> Result<List<Child>, ReadFault>
     ensures { GivesReading result (spec.children_at (view value.now)) }
 {
     let none = List::new(alloc);
@@ -75,7 +76,11 @@ fn children_of(alloc: Global, value: &Value) -> Result<List<Child>, ReadFault>
 
 /// Reads the rows of all sections that list them, in the order of the sections.
 #[tactic(auto, unfolding(crate::specs::Manifest::section_rows_at))]
-fn read_sections(alloc: Global, value: &Value, rows: &mut SectionRows) -> Result<(), ReadFault>
+fn read_sections(
+    alloc: Global,
+    value: &JsonTree<'_>,
+    rows: &mut SectionRows,
+) -> Result<(), ReadFault>
     ensures { GivesBy (λ _. rows.new) result (spec.section_rows_at (view value.now)) }
 {
     rows.children = children_of(alloc, value)?;
@@ -105,7 +110,7 @@ fn read_sections(alloc: Global, value: &Value, rows: &mut SectionRows) -> Result
 }
 
 /// The rows of all sections that list them.
-fn section_rows_of(alloc: Global, value: &Value) -> Result<SectionRows, ReadFault>
+fn section_rows_of(alloc: Global, value: &JsonTree<'_>) -> Result<SectionRows, ReadFault>
     ensures { GivesReading result (spec.section_rows_at (view value.now)) }
 {
     let mut rows = SectionRows {
@@ -158,13 +163,21 @@ fn declared_by(alloc: Global, runner: Option<Name>, rows: SectionRows) -> Result
 
 /// The declaration that a value is.
 #[tactic(auto, unfolding(crate::specs::Manifest::decl_at))]
-fn decl_of(alloc: Global, value: &Value) -> Result<Decl, ReadFault>
+fn decl_of(alloc: Global, value: &JsonTree<'_>) -> Result<Decl, ReadFault>
     ensures { GivesReading result (spec.decl_at (view value.now)) }
 {
     check_sections(alloc, value)?;
     let runner = runner_of(alloc, value)?;
     let rows = section_rows_of(alloc, value)?;
     Ok(declared_by(alloc, runner, rows)?)
+}
+
+/// The declaration that a value with texts of its own is.
+fn decl_of_value(alloc: Global, value: &Value) -> Result<Decl, ReadFault>
+    ensures { GivesReading result (spec.decl_at (json.view value.now)) }
+{
+    let tree = tree_of(alloc, value)?;
+    decl_of(alloc, &tree)
 }
 
 /// The declaration of a manifest in plain JSON, or its first fault. Faults 41 and 30 don't come.
@@ -183,11 +196,11 @@ pub fn read_decl_text(alloc: Global, text: &str) -> Result<Decl, ReadFault>
     ensures readable { IfOk result IsReadable }
     ensures formed { IfOk result (λ d. IsTrue (is_well_formed d)) }
 {
-    if let Some(value) = read_plain(alloc, text) {
-        return decl_of(alloc, &value);
+    if let Some(tree) = read_plain(alloc, text) {
+        return decl_of(alloc, &tree);
     }
     match Value::from_str(alloc, text) {
-        Ok(value) => decl_of(alloc, &value),
+        Ok(value) => decl_of_value(alloc, &value),
         Err(error) => {
             if error.is_memory() {
                 return Err(ReadFault::Memory);
@@ -232,8 +245,8 @@ fn decl_of_text(alloc: Global, text: &str) -> Result<Decl, ReadFault>
     ensures readable { IfOk result IsReadable }
     ensures formed { IfOk result (λ d. IsTrue (is_well_formed d)) }
 {
-    if is_plain_text(text.as_bytes()) {
-        return read_decl_text(alloc, text);
+    if let Some(tree) = read_plain(alloc, text) {
+        return decl_of(alloc, &tree);
     }
     let json = json_text(alloc, text)?;
     read_decl_text(alloc, json.as_str())

@@ -1,7 +1,7 @@
 //! The rows of a section.
 
 ghost use Rattle.std.specs.Prelude.{option_map};
-ghost use Rattle.serde_json.specs.View.{view, items_view};
+ghost use Rattle.cm_plain.specs.JsonTree.{view, items_view};
 ghost use Rattle.cm_read.specs.ReadingInside.{GivesReading};
 ghost use Rattle.cm_read.specs.Sections.{section_at, rows_at};
 
@@ -9,7 +9,7 @@ use crate::fault::{ItemPlace, ReadFault, fault, start};
 use crate::number::{TOO_MANY_ROWS, WRONG_TYPE};
 use cm_decl::{Child, Section};
 use cm_names::List;
-use serde_json::Value;
+use cm_plain::JsonTree;
 use std::alloc::Global;
 
 /// The most rows of a section.
@@ -30,7 +30,7 @@ pub trait SectionItem: Drop {
         alloc: Global,
         at: ItemPlace,
         children: &[Child],
-        item: &Value,
+        item: &JsonTree<'_>,
     ) -> Result<List<Self>, ReadFault>
         ensures { GivesReading result (reads children.now at (view item.now)) };
 }
@@ -40,7 +40,7 @@ fn rows_of<T: SectionItem>(
     alloc: Global,
     start: ItemPlace,
     children: &[Child],
-    items: &[Value],
+    items: &[JsonTree<'_>],
 ) -> Result<List<T>, ReadFault>
     ensures { GivesReading result (rows_at (T.reads children.now) start (items_view items.now)) }
 {
@@ -58,7 +58,7 @@ pub fn section_of<T: SectionItem>(
     alloc: Global,
     section: Section,
     children: &[Child],
-    value: Option<&Value>,
+    value: Option<&JsonTree<'_>>,
 ) -> Result<List<T>, ReadFault>
     ensures { GivesReading result
         (section_at (T.reads children.now) section

@@ -1,6 +1,6 @@
 //! Storages in `capabilities`, `use` and `offer`.
 
-ghost use Rattle.serde_json.specs.View.{view};
+ghost use Rattle.cm_plain.specs.JsonTree.{view};
 ghost use Rattle.cm_read.specs.Items as spec;
 ghost use Rattle.cm_read.specs.ReadingInside.{GivesReading};
 
@@ -11,14 +11,14 @@ use crate::rows::{CapabilityRow, UseRow, one_row};
 use crate::words::{availability_of, static_from_of, storage_id_of, storage_use_from_of};
 use cm_decl::{Storage, StorageUse};
 use cm_names::{List, Name};
-use serde_json::Value;
+use cm_plain::JsonTree;
 use std::alloc::Global;
 
 /// The row of a storage that is provided.
 pub fn storage_capability(
     alloc: Global,
     at: ItemPlace,
-    item: &Value,
+    item: &JsonTree<'_>,
 ) -> Result<List<CapabilityRow>, ReadFault>
     ensures { GivesReading result (spec.storage_at at (view item.now)) }
 {
@@ -48,7 +48,11 @@ pub fn storage_capability(
 
 /// The row of a storage that is used; its availability isn't kept.
 #[tactic(auto, unfolding(crate::specs::Items::storage_use_at, crate::specs::Items::storage_name_at))]
-pub fn storage_use(alloc: Global, at: ItemPlace, item: &Value) -> Result<List<UseRow>, ReadFault>
+pub fn storage_use(
+    alloc: Global,
+    at: ItemPlace,
+    item: &JsonTree<'_>,
+) -> Result<List<UseRow>, ReadFault>
     ensures { GivesReading result (spec.storage_use_at at (view item.now)) }
 {
     let read = both(
@@ -67,7 +71,11 @@ pub fn storage_use(alloc: Global, at: ItemPlace, item: &Value) -> Result<List<Us
 
 /// The names of storages that are offered, one or more.
 #[tactic(auto, unfolding(crate::specs::Items::storage_names_at))]
-pub fn storage_names_of(alloc: Global, at: ItemPlace, item: &Value) -> Result<List<Name>, ReadFault>
+pub fn storage_names_of(
+    alloc: Global,
+    at: ItemPlace,
+    item: &JsonTree<'_>,
+) -> Result<List<Name>, ReadFault>
     ensures { GivesReading result (spec.storage_names_at at (view item.now)) }
 {
     let value = needed(alloc, at, item, "storage")?;

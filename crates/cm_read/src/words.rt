@@ -1,7 +1,7 @@
 //! Fields with listed words, and where a capability comes from.
 
 ghost use Rattle.std.specs.Prelude.{◌≡◌, ok_or};
-ghost use Rattle.serde_json.specs.View.{view};
+ghost use Rattle.cm_plain.specs.JsonTree.{view};
 ghost use Rattle.cm_read.specs.Fields as fields;
 ghost use Rattle.cm_read.specs.Numbers.{unknown_word};
 ghost use Rattle.cm_read.specs.Words as spec;
@@ -15,7 +15,7 @@ use crate::number::{BAD_NAME, UNKNOWN_WORD};
 use crate::rows::UseSource;
 use cm_decl::{Child, Durability, Origin};
 use cm_names::{Availability, ChildName, Dependency, Name};
-use serde_json::Value;
+use cm_plain::JsonTree;
 use std::alloc::Global;
 
 /// Which of two words the text is: `false` for `off`, `true` for `on`, and `None` for any other.
@@ -182,7 +182,7 @@ fn listed<T: Drop>(
 fn flag_of(
     alloc: Global,
     at: ItemPlace,
-    item: &Value,
+    item: &JsonTree<'_>,
     key: &str,
     off: &str,
     on: &str,
@@ -198,7 +198,7 @@ fn flag_of(
 
 /// Whether a child starts together with its parent: `startup`, by default `lazy`.
 #[tactic(auto, unfolding(crate::specs::Words::startup_at, crate::specs::Words::startup_named))]
-pub fn startup_of(alloc: Global, at: ItemPlace, item: &Value) -> Result<bool, ReadFault>
+pub fn startup_of(alloc: Global, at: ItemPlace, item: &JsonTree<'_>) -> Result<bool, ReadFault>
     ensures { GivesReading result (spec.startup_at at (view item.now)) }
 {
     flag_of(alloc, at, item, "startup", "lazy", "eager")
@@ -206,7 +206,11 @@ pub fn startup_of(alloc: Global, at: ItemPlace, item: &Value) -> Result<bool, Re
 
 /// `durability`, which has to be there.
 #[tactic(auto, unfolding(crate::specs::Words::durability_at))]
-pub fn durability_of(alloc: Global, at: ItemPlace, item: &Value) -> Result<Durability, ReadFault>
+pub fn durability_of(
+    alloc: Global,
+    at: ItemPlace,
+    item: &JsonTree<'_>,
+) -> Result<Durability, ReadFault>
     ensures { GivesReading result (spec.durability_at at (view item.now)) }
 {
     let value = needed(alloc, at, item, "durability")?;
@@ -216,7 +220,11 @@ pub fn durability_of(alloc: Global, at: ItemPlace, item: &Value) -> Result<Durab
 
 /// Whether a child may be created with offers of its own: `allowed_offers`, by default `static_only`.
 #[tactic(auto, unfolding(crate::specs::Words::allowed_offers_at, crate::specs::Words::offers_named))]
-pub fn allowed_offers_of(alloc: Global, at: ItemPlace, item: &Value) -> Result<bool, ReadFault>
+pub fn allowed_offers_of(
+    alloc: Global,
+    at: ItemPlace,
+    item: &JsonTree<'_>,
+) -> Result<bool, ReadFault>
     ensures { GivesReading result (spec.allowed_offers_at at (view item.now)) }
 {
     flag_of(
@@ -231,7 +239,11 @@ pub fn allowed_offers_of(alloc: Global, at: ItemPlace, item: &Value) -> Result<b
 
 /// Whether the order of stops is bound: `dependency`, by default `strong`.
 #[tactic(auto, unfolding(crate::specs::Words::dependency_at))]
-pub fn dependency_of(alloc: Global, at: ItemPlace, item: &Value) -> Result<Dependency, ReadFault>
+pub fn dependency_of(
+    alloc: Global,
+    at: ItemPlace,
+    item: &JsonTree<'_>,
+) -> Result<Dependency, ReadFault>
     ensures { GivesReading result (spec.dependency_at at (view item.now)) }
 {
     let Some(value) = item.get("dependency") else {
@@ -246,7 +258,7 @@ pub fn dependency_of(alloc: Global, at: ItemPlace, item: &Value) -> Result<Depen
 pub fn availability_of(
     alloc: Global,
     at: ItemPlace,
-    item: &Value,
+    item: &JsonTree<'_>,
 ) -> Result<Availability, ReadFault>
     ensures { GivesReading result (spec.availability_at at (view item.now)) }
 {
@@ -262,7 +274,7 @@ pub fn availability_of(
 pub fn given_availability_of(
     alloc: Global,
     at: ItemPlace,
-    item: &Value,
+    item: &JsonTree<'_>,
 ) -> Result<Availability, ReadFault>
     ensures { GivesReading result (spec.given_availability_at at (view item.now)) }
 {
@@ -275,7 +287,11 @@ pub fn given_availability_of(
 
 /// Whether the source may be missing: `source_availability`, by default `required`.
 #[tactic(auto, unfolding(crate::specs::Words::source_unknown_at, crate::specs::Words::source_named))]
-pub fn source_unknown_of(alloc: Global, at: ItemPlace, item: &Value) -> Result<bool, ReadFault>
+pub fn source_unknown_of(
+    alloc: Global,
+    at: ItemPlace,
+    item: &JsonTree<'_>,
+) -> Result<bool, ReadFault>
     ensures { GivesReading result (spec.source_unknown_at at (view item.now)) }
 {
     flag_of(
@@ -289,7 +305,12 @@ pub fn source_unknown_of(alloc: Global, at: ItemPlace, item: &Value) -> Result<b
 }
 
 /// A field that says the parent alone, by default.
-fn parent_alone(alloc: Global, at: ItemPlace, item: &Value, key: &str) -> Result<(), ReadFault>
+fn parent_alone(
+    alloc: Global,
+    at: ItemPlace,
+    item: &JsonTree<'_>,
+    key: &str,
+) -> Result<(), ReadFault>
     ensures { GivesReading result (spec_inside.parent_alone key.now at (view item.now)) }
 {
     let Some(value) = item.get(key) else {
@@ -301,7 +322,7 @@ fn parent_alone(alloc: Global, at: ItemPlace, item: &Value, key: &str) -> Result
 
 /// `to` of an expose, by default `parent`.
 #[tactic(auto, unfolding(crate::specs::Words::expose_to_at))]
-pub fn expose_to_of(alloc: Global, at: ItemPlace, item: &Value) -> Result<(), ReadFault>
+pub fn expose_to_of(alloc: Global, at: ItemPlace, item: &JsonTree<'_>) -> Result<(), ReadFault>
     ensures { GivesReading result (spec.expose_to_at at (view item.now)) }
 {
     parent_alone(alloc, at, item, "to")
@@ -348,7 +369,7 @@ fn origin_from(
 
 /// The origin of a use that a value is.
 #[tactic(auto, unfolding(crate::specs::Words::use_from_in_at))]
-fn use_from_in(alloc: Global, at: ItemPlace, value: &Value) -> Result<Origin, ReadFault>
+fn use_from_in(alloc: Global, at: ItemPlace, value: &JsonTree<'_>) -> Result<Origin, ReadFault>
     ensures { GivesReading result (spec.use_from_in_at at (view value.now)) }
 {
     let text = text_of(alloc, at, value, "from")?;
@@ -357,7 +378,7 @@ fn use_from_in(alloc: Global, at: ItemPlace, value: &Value) -> Result<Origin, Re
 
 /// The origin of an offer that a value is.
 #[tactic(auto, unfolding(crate::specs::Words::offer_from_in_at))]
-fn offer_from_in(alloc: Global, at: ItemPlace, value: &Value) -> Result<Origin, ReadFault>
+fn offer_from_in(alloc: Global, at: ItemPlace, value: &JsonTree<'_>) -> Result<Origin, ReadFault>
     ensures { GivesReading result (spec.offer_from_in_at at (view value.now)) }
 {
     let text = text_of(alloc, at, value, "from")?;
@@ -366,7 +387,7 @@ fn offer_from_in(alloc: Global, at: ItemPlace, value: &Value) -> Result<Origin, 
 
 /// The origin of an expose that a value is.
 #[tactic(auto, unfolding(crate::specs::Words::expose_from_in_at))]
-fn expose_from_in(alloc: Global, at: ItemPlace, value: &Value) -> Result<Origin, ReadFault>
+fn expose_from_in(alloc: Global, at: ItemPlace, value: &JsonTree<'_>) -> Result<Origin, ReadFault>
     ensures { GivesReading result (spec.expose_from_in_at at (view value.now)) }
 {
     let text = text_of(alloc, at, value, "from")?;
@@ -375,7 +396,7 @@ fn expose_from_in(alloc: Global, at: ItemPlace, value: &Value) -> Result<Origin,
 
 /// `from` of a use, by default `parent`.
 #[tactic(auto, unfolding(crate::specs::Words::use_from_at))]
-pub fn use_from_of(alloc: Global, at: ItemPlace, item: &Value) -> Result<Origin, ReadFault>
+pub fn use_from_of(alloc: Global, at: ItemPlace, item: &JsonTree<'_>) -> Result<Origin, ReadFault>
     ensures { GivesReading result (spec.use_from_at at (view item.now)) }
 {
     let Some(value) = item.get("from") else {
@@ -386,7 +407,7 @@ pub fn use_from_of(alloc: Global, at: ItemPlace, item: &Value) -> Result<Origin,
 
 /// `from` of an offer, which has to be there.
 #[tactic(auto, unfolding(crate::specs::Words::offer_from_at))]
-pub fn offer_from_of(alloc: Global, at: ItemPlace, item: &Value) -> Result<Origin, ReadFault>
+pub fn offer_from_of(alloc: Global, at: ItemPlace, item: &JsonTree<'_>) -> Result<Origin, ReadFault>
     ensures { GivesReading result (spec.offer_from_at at (view item.now)) }
 {
     let value = needed(alloc, at, item, "from")?;
@@ -395,7 +416,11 @@ pub fn offer_from_of(alloc: Global, at: ItemPlace, item: &Value) -> Result<Origi
 
 /// `from` of an expose, which has to be there.
 #[tactic(auto, unfolding(crate::specs::Words::expose_from_at))]
-pub fn expose_from_of(alloc: Global, at: ItemPlace, item: &Value) -> Result<Origin, ReadFault>
+pub fn expose_from_of(
+    alloc: Global,
+    at: ItemPlace,
+    item: &JsonTree<'_>,
+) -> Result<Origin, ReadFault>
     ensures { GivesReading result (spec.expose_from_at at (view item.now)) }
 {
     let value = needed(alloc, at, item, "from")?;
@@ -417,7 +442,7 @@ fn source_from(alloc: Global, at: ItemPlace, text: &str) -> Result<UseSource, Re
 
 /// Where a protocol that is used comes from, as a value says it.
 #[tactic(auto, unfolding(crate::specs::Words::use_source_in_at))]
-fn use_source_in(alloc: Global, at: ItemPlace, value: &Value) -> Result<UseSource, ReadFault>
+fn use_source_in(alloc: Global, at: ItemPlace, value: &JsonTree<'_>) -> Result<UseSource, ReadFault>
     ensures { GivesReading result (spec.use_source_in_at at (view value.now)) }
 {
     let text = text_of(alloc, at, value, "from")?;
@@ -426,7 +451,11 @@ fn use_source_in(alloc: Global, at: ItemPlace, value: &Value) -> Result<UseSourc
 
 /// `from` of a protocol that is used, by default `parent`.
 #[tactic(auto, unfolding(crate::specs::Words::use_source_at))]
-pub fn use_source_of(alloc: Global, at: ItemPlace, item: &Value) -> Result<UseSource, ReadFault>
+pub fn use_source_of(
+    alloc: Global,
+    at: ItemPlace,
+    item: &JsonTree<'_>,
+) -> Result<UseSource, ReadFault>
     ensures { GivesReading result (spec.use_source_at at (view item.now)) }
 {
     let Some(value) = item.get("from") else {
@@ -437,7 +466,7 @@ pub fn use_source_of(alloc: Global, at: ItemPlace, item: &Value) -> Result<UseSo
 
 /// The origin of a registration or a storage that a value is.
 #[tactic(auto, unfolding(crate::specs::Words::static_from_in_at))]
-fn static_from_in(alloc: Global, at: ItemPlace, value: &Value) -> Result<Origin, ReadFault>
+fn static_from_in(alloc: Global, at: ItemPlace, value: &JsonTree<'_>) -> Result<Origin, ReadFault>
     ensures { GivesReading result (spec.static_from_in_at at (view value.now)) }
 {
     let text = text_of(alloc, at, value, "from")?;
@@ -446,7 +475,11 @@ fn static_from_in(alloc: Global, at: ItemPlace, value: &Value) -> Result<Origin,
 
 /// `from` of a registration or a storage, which has to be there.
 #[tactic(auto, unfolding(crate::specs::Words::static_from_at))]
-pub fn static_from_of(alloc: Global, at: ItemPlace, item: &Value) -> Result<Origin, ReadFault>
+pub fn static_from_of(
+    alloc: Global,
+    at: ItemPlace,
+    item: &JsonTree<'_>,
+) -> Result<Origin, ReadFault>
     ensures { GivesReading result (spec.static_from_at at (view item.now)) }
 {
     let value = needed(alloc, at, item, "from")?;
@@ -455,7 +488,11 @@ pub fn static_from_of(alloc: Global, at: ItemPlace, item: &Value) -> Result<Orig
 
 /// `from` of an offer of a storage, which has to be there; no child is meant.
 #[tactic(auto, unfolding(crate::specs::Words::storage_from_at))]
-pub fn storage_from_of(alloc: Global, at: ItemPlace, item: &Value) -> Result<Origin, ReadFault>
+pub fn storage_from_of(
+    alloc: Global,
+    at: ItemPlace,
+    item: &JsonTree<'_>,
+) -> Result<Origin, ReadFault>
     ensures { GivesReading result (spec.storage_from_at at (view item.now)) }
 {
     let value = needed(alloc, at, item, "from")?;
@@ -465,7 +502,11 @@ pub fn storage_from_of(alloc: Global, at: ItemPlace, item: &Value) -> Result<Ori
 
 /// `from` of a use of a storage: the parent alone, by default.
 #[tactic(auto, unfolding(crate::specs::Words::storage_use_from_at))]
-pub fn storage_use_from_of(alloc: Global, at: ItemPlace, item: &Value) -> Result<(), ReadFault>
+pub fn storage_use_from_of(
+    alloc: Global,
+    at: ItemPlace,
+    item: &JsonTree<'_>,
+) -> Result<(), ReadFault>
     ensures { GivesReading result (spec.storage_use_from_at at (view item.now)) }
 {
     parent_alone(alloc, at, item, "from")
@@ -473,7 +514,7 @@ pub fn storage_use_from_of(alloc: Global, at: ItemPlace, item: &Value) -> Result
 
 /// Whether an environment extends that of its component: `extends`, by default `none`.
 #[tactic(auto, unfolding(crate::specs::Words::extends_at, crate::specs::Words::extends_named))]
-pub fn extends_of(alloc: Global, at: ItemPlace, item: &Value) -> Result<bool, ReadFault>
+pub fn extends_of(alloc: Global, at: ItemPlace, item: &JsonTree<'_>) -> Result<bool, ReadFault>
     ensures { GivesReading result (spec.extends_at at (view item.now)) }
 {
     flag_of(alloc, at, item, "extends", "none", "realm")
@@ -481,7 +522,7 @@ pub fn extends_of(alloc: Global, at: ItemPlace, item: &Value) -> Result<bool, Re
 
 /// `storage_id`, which has to be there.
 #[tactic(auto, unfolding(crate::specs::Words::storage_id_at))]
-pub fn storage_id_of(alloc: Global, at: ItemPlace, item: &Value) -> Result<bool, ReadFault>
+pub fn storage_id_of(alloc: Global, at: ItemPlace, item: &JsonTree<'_>) -> Result<bool, ReadFault>
     ensures { GivesReading result (spec.storage_id_at at (view item.now)) }
 {
     let value = needed(alloc, at, item, "storage_id")?;
@@ -501,7 +542,7 @@ fn environment_from(alloc: Global, at: ItemPlace, text: &str) -> Result<Name, Re
 
 /// The name of an environment that a value is.
 #[tactic(auto, unfolding(crate::specs::Words::environment_in_at))]
-fn environment_in(alloc: Global, at: ItemPlace, value: &Value) -> Result<Name, ReadFault>
+fn environment_in(alloc: Global, at: ItemPlace, value: &JsonTree<'_>) -> Result<Name, ReadFault>
     ensures { GivesReading result (spec.environment_in_at at (view value.now)) }
 {
     let text = text_of(alloc, at, value, "environment")?;
@@ -510,7 +551,11 @@ fn environment_in(alloc: Global, at: ItemPlace, value: &Value) -> Result<Name, R
 
 /// `environment` of a child or a collection, which may be missing.
 #[tactic(auto, unfolding(crate::specs::Words::environment_at))]
-pub fn environment_of(alloc: Global, at: ItemPlace, item: &Value) -> Result<Option<Name>, ReadFault>
+pub fn environment_of(
+    alloc: Global,
+    at: ItemPlace,
+    item: &JsonTree<'_>,
+) -> Result<Option<Name>, ReadFault>
     ensures { GivesReading result (spec.environment_at at (view item.now)) }
 {
     let Some(value) = item.get("environment") else {

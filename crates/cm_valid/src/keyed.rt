@@ -12,7 +12,7 @@ use std::alloc::Global;
 fn bytes_of(alloc: Global, text: &str) -> Result<Bytes, Memory>
     ensures { IfOk result (λ bytes. bytes ≡ text.now) }
 {
-    let mut bytes = List::new(alloc);
+    let mut bytes = List::with_capacity(alloc, text.len())?;
     bytes.extend_from_slice(text.as_bytes())?;
     Ok(bytes)
 }
@@ -21,7 +21,7 @@ fn bytes_of(alloc: Global, text: &str) -> Result<Bytes, Memory>
 fn zeroed(alloc: Global, path: &str) -> Result<Bytes, Memory>
     ensures { IfOk result (λ bytes. bytes ≡ spec.zeroed path.now) }
 {
-    let mut bytes = List::new(alloc);
+    let mut bytes = List::with_capacity(alloc, path.len())?;
     for byte in path.as_bytes() {
         bytes.push(if *byte == b'/' { 0 } else { *byte })?;
     }
@@ -79,9 +79,13 @@ impl Keyed for Offer {
 
     /// Offers clash by their target and their name there.
     fn key(&self, alloc: Global) -> Result<Bytes, Memory> {
-        let mut bytes = bytes_of(alloc, self.to.as_str())?;
+        let to = self.to.as_str();
+        let name = self.give.target_name.as_str();
+        let room = to.len().saturating_add(name.len()).saturating_add(1);
+        let mut bytes = List::with_capacity(alloc, room)?;
+        bytes.extend_from_slice(to.as_bytes())?;
         bytes.push(b'/')?;
-        bytes.extend_from_slice(self.give.target_name.as_str().as_bytes())?;
+        bytes.extend_from_slice(name.as_bytes())?;
         Ok(bytes)
     }
 }

@@ -36,7 +36,7 @@ pub(crate) fn apart<T: Keyed>(alloc: Global, rows: &[T]) -> Result<usize, Memory
 fn keys_of<T: Keyed>(alloc: Global, rows: &[T]) -> Result<Vec<RowKey>, Memory>
     ensures { IfOk result (λ keys. AreKeys T.key rows.now keys.items) }
 {
-    let mut keys = Vec::new(alloc);
+    let mut keys = Vec::with_capacity(alloc, rows.len())?;
     for (row, item) in rows.iter().enumerate() {
         let text = item.key(alloc)?;
         keys.push(RowKey { text, row })?;

@@ -1,7 +1,8 @@
-use Rattle.std.proofs.Common.{◌*◌, ◌+◌, ◌<◌, length}
+use Rattle.std.proofs.Common.{◌*◌, ◌+◌, ◌<◌, length, false}
 use denote.Text.{Utf8}
 use denote.Shadow.{shadow}
-use Rattle.serde_json.specs.View.{members_view}
+use Rattle.cm_plain.specs.Plain.{PassesPieces}
+use Rattle.cm_plain.specs.JsonTree.{members_view}
 use Rattle.cm_plain.proofs.PlainLemmas.{ItemsSo, MembersSo}
 use Rattle.cm_plain.proofs.plain.+read_value.Given as goal
 
@@ -23,14 +24,15 @@ decreases-read_members l = 3 * l.depth + 2
 abbrev pub invariant-read_items-items : goal.invariant-read_items-items
 invariant-read_items-items l =
     shadow (Utf8 l.left) × ItemsSo l.fn.depth l.fn.text l.found.items l.left × (length l.left < length l.fn.text)
+    × PassesPieces false l.fn.text false l.left
 
 abbrev pub decreases-read_items-items : goal.decreases-read_items-items
 decreases-read_items-items l = length l.left
 
 abbrev pub invariant-read_members-members : goal.invariant-read_members-members
 invariant-read_members-members l =
-    shadow (Utf8 l.left) × MembersSo l.fn.depth l.fn.text (members_view l.found.entries) l.left
-    × (length l.left < length l.fn.text)
+    shadow (Utf8 l.left) × MembersSo l.fn.depth l.fn.text (members_view l.found.items) l.left
+    × (length l.left < length l.fn.text) × PassesPieces false l.fn.text false l.left
 
 abbrev pub decreases-read_members-members : goal.decreases-read_members-members
 decreases-read_members-members l = length l.left

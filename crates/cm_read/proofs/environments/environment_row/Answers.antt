@@ -1,5 +1,5 @@
 use Rattle.std.proofs.Common.{codes}
-use Rattle.serde_json.specs.View.{view}
+use Rattle.cm_plain.specs.JsonTree.{view}
 use Rattle.cm_read.specs.declared.rows.Registry.TheVariants.{Runners, Debug}
 use Rattle.cm_read.specs.Fields.{name_at}
 use Rattle.cm_read.specs.Words.{extends_at}

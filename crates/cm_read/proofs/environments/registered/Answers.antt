@@ -1,4 +1,4 @@
-use Rattle.serde_json.specs.View.{view}
+use Rattle.cm_plain.specs.JsonTree.{view}
 use Rattle.cm_read.specs.Words.{static_from_at}
 use Rattle.cm_read.specs.Items.{as_at}
 use Rattle.cm_read.specs.Environments.{registered_at}

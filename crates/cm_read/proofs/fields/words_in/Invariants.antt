@@ -1,5 +1,5 @@
 use Rattle.std.proofs.Common.{◌≡◌, drop}
-use Rattle.serde_json.specs.View.{items_view}
+use Rattle.cm_plain.specs.JsonTree.{items_view}
 use Rattle.cm_read.specs.Fields.{texts_in_at}
 use Rattle.cm_read.specs.FieldsInside.{map_now}
 use Rattle.cm_read.proofs.RowLemmas.{with_prefix}

@@ -1,5 +1,5 @@
 use Rattle.std.proofs.Common.{Ok, codes, map, refl}
-use Rattle.serde_json.specs.View.{view}
+use Rattle.cm_plain.specs.JsonTree.{view}
 use Rattle.cm_names.specs.declared.dependency.Dependency.TheVariants.{Strong}
 use Rattle.cm_read.specs.Fields.{subdir_at}
 use Rattle.cm_read.specs.Words.{given_availability_at, source_unknown_at, expose_from_at, expose_to_at}

@@ -1,6 +1,6 @@
 use Rattle.std.proofs.Common.{Ok, codes, map}
 use Rattle.std.specs.List.{flat_map}
-use Rattle.serde_json.specs.View.{view}
+use Rattle.cm_plain.specs.JsonTree.{view}
 use Rattle.cm_read.specs.Fields.{subdir_at}
 use Rattle.cm_read.specs.Words.{dependency_at, given_availability_at, source_unknown_at, offer_from_at}
 use Rattle.cm_read.specs.Items.{as_at, given_rights_at, targets_at, give_row, offer_rows, offered_at}

@@ -1,4 +1,4 @@
-use Rattle.serde_json.specs.View.{view}
+use Rattle.cm_plain.specs.JsonTree.{view}
 use Rattle.cm_read.specs.Words.{given_availability_at, storage_from_at}
 use Rattle.cm_read.specs.Items.{as_at, targets_at, storages_offered_at}
 use Rattle.cm_read.proofs.ByTwos.{fails_then, reads_then, four}

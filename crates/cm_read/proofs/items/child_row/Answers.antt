@@ -1,5 +1,5 @@
 use Rattle.std.proofs.Common.{codes}
-use Rattle.serde_json.specs.View.{view}
+use Rattle.cm_plain.specs.JsonTree.{view}
 use Rattle.cm_read.specs.Fields.{name_at, url_at}
 use Rattle.cm_read.specs.Words.{startup_at, environment_at}
 use Rattle.cm_read.specs.Items.{child_row_at}

@@ -1,5 +1,5 @@
 use Rattle.std.proofs.Common.{codes}
-use Rattle.serde_json.specs.View.{view}
+use Rattle.cm_plain.specs.JsonTree.{view}
 use Rattle.cm_read.specs.Fields.{name_at}
 use Rattle.cm_read.specs.Words.{durability_at, allowed_offers_at, environment_at}
 use Rattle.cm_read.specs.Items.{collection_row_at}

@@ -1,5 +1,5 @@
 use Rattle.std.proofs.Common.{codes}
-use Rattle.serde_json.specs.View.{view}
+use Rattle.cm_plain.specs.JsonTree.{view}
 use Rattle.cm_read.specs.Fields.{path_at, rights_at}
 use Rattle.cm_read.specs.Items.{directory_name_at, directory_capability_at}
 use Rattle.cm_read.proofs.ByTwos.{fails_then, gives_then, three}

@@ -1,4 +1,4 @@
-use Rattle.serde_json.specs.View.{view}
+use Rattle.cm_plain.specs.JsonTree.{view}
 use Rattle.cm_read.specs.Words.{dependency_at, availability_at, use_source_at}
 use Rattle.cm_read.specs.Items.{protocol_path_at, protocols_used_at}
 use Rattle.cm_read.proofs.ByTwos.{fails_then, reads_then, four}

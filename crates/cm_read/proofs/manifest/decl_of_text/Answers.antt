@@ -1,11 +1,18 @@
-use Rattle.std.proofs.Common.{◌≡◌, true, sym, subst, arith}
-use Rattle.cm_plain.specs.Plain.{ReadsAsJson}
+use Rattle.std.proofs.Common.{sym, ap, ◌∙◌, subst}
+use Rattle.cm_plain.specs.JsonTree.{view}
+use Rattle.cm_read.specs.Manifest.{of_data}
 use Rattle.cm_read.specs.ReadingInside.{GivesReading}
 use Rattle.cm_read.proofs.TextLemmas.{plain_decl}
+use Rattle.cm_read.proofs.reading.DeclRead.{is_of_data}
 use Rattle.cm_read.proofs.manifest.decl_of_text.Goals as goal
 
-pub returns-then-is_plain_text-clause-decl : goal.returns-then-is_plain_text-clause-decl
-returns-then-is_plain_text-clause-decl c =
-    let plain : c.is_plain_text.result ≡ true = grind arith in
-    let reads = subst ReadsAsJson c.as_bytes.ensures.value (c.is_plain_text.ensures plain) in
-    subst (GivesReading c.read_decl_text.result) (sym (plain_decl c.args.text.now reads)) c.read_decl_text.ensures.decl
+pub returns-in-Some-clause-decl : goal.returns-in-Some-clause-decl
+returns-in-Some-clause-decl c =
+    let same = plain_decl c.args.text.now c.in-Some.ensures.json ∙ ap of_data c.in-Some.ensures.value in
+    subst (GivesReading c.decl_of.result) (sym same) c.decl_of.ensures
+
+pub returns-in-Some-clause-readable : goal.returns-in-Some-clause-readable
+returns-in-Some-clause-readable c = (is_of_data c.decl_of.result (view c.in-Some.tree) c.decl_of.ensures).readable
+
+pub returns-in-Some-clause-formed : goal.returns-in-Some-clause-formed
+returns-in-Some-clause-formed c = (is_of_data c.decl_of.result (view c.in-Some.tree) c.decl_of.ensures).formed

@@ -1,5 +1,5 @@
 use Rattle.std.proofs.Common.{◌≡◌, drop}
-use Rattle.serde_json.specs.View.{items_view}
+use Rattle.cm_plain.specs.JsonTree.{items_view}
 use Rattle.cm_read.specs.Sections.{rows_at}
 use Rattle.cm_read.proofs.RowLemmas.{with_prefix}
 use Rattle.cm_read.proofs.sections.rows_of.Given as goal

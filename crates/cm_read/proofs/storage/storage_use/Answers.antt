@@ -1,5 +1,5 @@
 use Rattle.std.proofs.Common.{codes}
-use Rattle.serde_json.specs.View.{view}
+use Rattle.cm_plain.specs.JsonTree.{view}
 use Rattle.cm_read.specs.Fields.{path_at}
 use Rattle.cm_read.specs.Words.{availability_at, storage_use_from_at}
 use Rattle.cm_read.specs.Items.{storage_name_at, storage_use_at}
