@@ -3,3 +3,4 @@ pub mod OutlineLemmas
 pub mod ScanLemmas
 pub mod CharLemmas
 pub mod StringLemmas
+pub mod NextLemmas

@@ -9,3 +9,4 @@ pub mod Examples
 pub mod Scan
 pub mod Spelling
 pub mod Writing
+pub mod Next

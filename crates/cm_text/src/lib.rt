@@ -21,10 +21,12 @@
 mod bytes;
 mod fault;
 pub mod laws;
+mod next;
 mod relaxed;
 mod scan;
 mod token;
 mod writer;
 
 pub use fault::TextFault;
+pub use next::{bare_key, behind_blank};
 pub use relaxed::to_json;

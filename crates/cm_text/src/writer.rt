@@ -33,7 +33,7 @@ fn all_continue_key(bytes: &[u8]) -> bool
 }
 
 /// Whether a word may be a key with no quotes.
-fn is_bare_key(word: &str) -> bool
+pub(crate) fn is_bare_key(word: &str) -> bool
     ensures { result ≡ spec.is_bare_key word.now }
 {
     let bytes = word.as_bytes();

@@ -23,7 +23,7 @@ piece_is_long (line_comment bs) h = omega arith
 piece_is_long (block_comment bs) h = omega arith
 
 -- what a text's rest begins with, the text begins with behind its first piece
-begins_more : (p : Piece) (text rest : List ℕ) (ps : List Piece) (s : Stands p text) → SplitsInto s.rest ps rest → SplitsInto text (p ∷ ps) rest
+pub begins_more : (p : Piece) (text rest : List ℕ) (ps : List Piece) (s : Stands p text) → SplitsInto s.rest ps rest → SplitsInto text (p ∷ ps) rest
 begins_more p text rest ps s b = record {
   bytes = append_assoc (piece_bytes p) (bytes_of ps) rest ∙ ap (λ xs. piece_bytes p ++ xs) b.bytes ∙ sym s.bytes;
   pieces = rw s.piece (rw (ap (may_follow p) b.bytes ∙ s.follows) b.pieces);
