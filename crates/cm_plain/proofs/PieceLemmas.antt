@@ -193,7 +193,7 @@ spelled (block_comment bs ∷ ps) before c d e = absurd (cc)
 
 -- ---- one piece after another
 
-then_bytes : (ps qs : List Piece) (rest : List ℕ)
+pub then_bytes : (ps qs : List Piece) (rest : List ℕ)
     → bytes_of (ps ++ qs) ++ rest ≡ bytes_of ps ++ (bytes_of qs ++ rest)
 then_bytes [] qs rest = refl
 then_bytes (p ∷ ps) qs rest =
@@ -248,7 +248,7 @@ of_class false false true s h = refl
 of_class false false false true h = absurd (cc)
 of_class false false false false h = absurd (cc)
 
-class_mark : (b : ℕ) → class b ≡ operator → is_mark b ≡ true
+pub class_mark : (b : ℕ) → class b ≡ operator → is_mark b ≡ true
 class_mark b h = of_class (b == 34) (b == 92) (is_mark b) (is_space b) h
 
 pub passes_mark : (c : Bool) (b : ℕ) (t rest : List ℕ) → class b ≡ operator → t ≡ b ∷ rest
@@ -257,7 +257,7 @@ passes_mark c b t rest h e stays =
     let is : is_mark b ≡ true = class_mark b h in
     passes_one c (is_comma b) (piece (mark b)) t rest (sym e) (rw (is, stays))
 
-chars_back : (s : List ℕ) → flat_map char_bytes (map plain s) ≡ s
+pub chars_back : (s : List ℕ) → flat_map char_bytes (map plain s) ≡ s
 chars_back [] = refl
 chars_back (b ∷ bs) = ap (λ l. b ∷ l) (chars_back bs)
 
@@ -276,11 +276,11 @@ passes_string c text inside s rest o e h =
 
 -- ---- the whole text
 
-nothing_behind : (xs : List ℕ) → length xs ≡ 0 → xs ≡ []
+pub nothing_behind : (xs : List ℕ) → length xs ≡ 0 → xs ≡ []
 nothing_behind [] h = refl
 nothing_behind (x ∷ xs) h = absurd (omega arith)
 
-abbrev of_lexemes : List Lexeme → Option Data
+abbrev pub of_lexemes : List Lexeme → Option Data
 of_lexemes ls = option_and_then of_json (option_and_then (λ p. if_last p.0 p.1) (value 127 (punctuate fresh ls)))
 
 pub reads_as_json : (text rest : List ℕ) (c : Bool) → PassesPieces false text c rest → length rest ≡ 0 → ReadsAsJson text

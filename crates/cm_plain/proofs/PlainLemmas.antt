@@ -27,7 +27,7 @@ use Rattle.cm_plain.specs.declared.tree.JsonTree.{JsonTree, Array, Object, the_l
 use Rattle.cm_plain.specs.declared.tree.JsonTree as made
 use Rattle.cm_plain.proofs.TreeLemmas.{Member, view-Array, view-Object, members_push}
 use Rattle.cm_text.specs.Bytes.{is_mark, is_space, begins_with}
-use Rattle.cm_plain.specs.Plain.{is_plain, begins, left, NoColon, HasValue, HasItems, HasMembers, AddsItem, AddsMember}
+use Rattle.cm_plain.specs.Plain.{is_plain, is_inside, begins, left, NoColon, HasValue, HasItems, HasMembers, AddsItem, AddsMember}
 use Rattle.cm_plain.proofs.ValueLemmas.{array_read, object_read, item_read, items_over, member_read, members_over}
 use Rattle.cm_plain.proofs.ValueLemmas.{value_shorter, no_end, items_before, items_are_before, one_more}
 use Rattle.cm_plain.proofs.ValueLemmas.{none_before, whole_read}
@@ -87,30 +87,31 @@ pub mark_passed : (c : ℕ) (t rest : List ℕ) → class c ≡ operator → t �
     → lex between t ≡ operator_lexeme c ∷ lex between rest
 mark_passed c t rest e h = ap (lex between) h ∙ at_mark c rest e
 
-closes : (t : List ℕ) (n : ℕ) → begins 34 (drop n t) ≡ true
-    → (n < length t) × (get_or t n 0 ≡ 34) × (drop n t ≡ 34 ∷ drop (suc n) t)
-closes [] zero h = absurd (cc)
-closes [] (suc n) h = absurd (cc)
-closes (x ∷ xs) zero h = (omega arith, eqb-true x 34 h, ap (λ b. b ∷ xs) (eqb-true x 34 h))
-closes (x ∷ xs) (suc n) h =
-    let there = closes xs n h in
+closes : (q : ℕ) (t : List ℕ) (n : ℕ) → begins q (drop n t) ≡ true
+    → (n < length t) × (get_or t n 0 ≡ q) × (drop n t ≡ q ∷ drop (suc n) t)
+closes q [] zero h = absurd (cc)
+closes q [] (suc n) h = absurd (cc)
+closes q (x ∷ xs) zero h = (omega arith, eqb-true x q h, ap (λ b. b ∷ xs) (eqb-true x q h))
+closes q (x ∷ xs) (suc n) h =
+    let there = closes q xs n h in
     let within = there.0 in
     (omega arith, there.1, there.2)
 
--- the quote that closes a string stands behind its plain bytes
-pub closes_at : (bytes t closed : List ℕ) (n : ℕ) → bytes ≡ t → closed ≡ take (length bytes - n) (drop n bytes)
-    → begins 34 closed ≡ true → (n < length t) × (get_or t n 0 ≡ 34) × (drop n t ≡ 34 ∷ drop (suc n) t)
-closes_at bytes t closed n v c h =
-    closes t n (ap (λ l. begins 34 (drop n l)) (sym v) ∙ ap (begins 34) (sym (unslice n bytes) ∙ sym c) ∙ h)
+-- the quote that closes a string stands behind the bytes that stand for themselves
+pub closes_at : (q : ℕ) (bytes t closed : List ℕ) (n : ℕ) → bytes ≡ t
+    → closed ≡ take (length bytes - n) (drop n bytes) → begins q closed ≡ true
+    → (n < length t) × (get_or t n 0 ≡ q) × (drop n t ≡ q ∷ drop (suc n) t)
+closes_at q bytes t closed n v c h =
+    closes q t n (ap (λ l. begins q (drop n l)) (sym v) ∙ ap (begins q) (sym (unslice n bytes) ∙ sym c) ∙ h)
 
-pub string_split : (t s rest : List ℕ) (n : ℕ) → drop n t ≡ 34 ∷ drop (suc n) t → s ≡ take n t
-    → rest ≡ drop (n + 1) t → t ≡ s ++ 34 ∷ rest
-string_split t s rest n q p r =
+pub string_split : (q : ℕ) (t s rest : List ℕ) (n : ℕ) → drop n t ≡ q ∷ drop (suc n) t → s ≡ take n t
+    → rest ≡ drop (n + 1) t → t ≡ s ++ q ∷ rest
+string_split q t s rest n e p r =
     let next : suc n ≡ n + 1 = omega arith in
     sym (take-append-drop n t)
-    ∙ ap₂ (λ a b. a ++ b) (sym p) (q ∙ ap (λ k. 34 ∷ drop k t) next ∙ ap (λ l. 34 ∷ l) (sym r))
+    ∙ ap₂ (λ a b. a ++ b) (sym p) (e ∙ ap (λ k. q ∷ drop k t) next ∙ ap (λ l. q ∷ l) (sym r))
 
-plain_escape : (s : List ℕ) → list_all is_plain s ≡ true → escape s ≡ s
+pub plain_escape : (s : List ℕ) → list_all is_plain s ≡ true → escape s ≡ s
 plain_escape [] h = refl
 plain_escape (x ∷ s) h =
     let both = and_parts (is_plain x) (list_all is_plain s) h in
@@ -128,23 +129,23 @@ at_string s r h =
     ap (λ l. lex between (34 ∷ l)) e
     ∙ ap₂ (λ o l. token (string_token o) ∷ l) (content-escape s r) (lex-escape s r)
 
-prefix_by : (x : ℕ) (xs : List ℕ) (b : Bool) → is_plain x ≡ b
-    → list_all is_plain (take (length (take_while is_plain xs)) xs) ≡ true
-    → list_all is_plain (take (length (cond b (x ∷ take_while is_plain xs) [])) (x ∷ xs)) ≡ true
-prefix_by x xs true e h = rw e h
-prefix_by x xs false e h = refl
+prefix_by : (p : ℕ → Bool) (x : ℕ) (xs : List ℕ) (b : Bool) → p x ≡ b
+    → list_all p (take (length (take_while p xs)) xs) ≡ true
+    → list_all p (take (length (cond b (x ∷ take_while p xs) [])) (x ∷ xs)) ≡ true
+prefix_by p x xs true e h = rw e h
+prefix_by p x xs false e h = refl
 
-pub prefix_is_plain : (xs : List ℕ) → list_all is_plain (take (length (take_while is_plain xs)) xs) ≡ true
-prefix_is_plain [] = refl
-prefix_is_plain (x ∷ xs) =
-    subst (λ l. list_all is_plain (take (length l) (x ∷ xs)) ≡ true) (sym (take_while-cons is_plain x xs))
-    (prefix_by x xs (is_plain x) refl (prefix_is_plain xs))
+prefix_passes : (p : ℕ → Bool) (xs : List ℕ) → list_all p (take (length (take_while p xs)) xs) ≡ true
+prefix_passes p [] = refl
+prefix_passes p (x ∷ xs) =
+    subst (λ l. list_all p (take (length l) (x ∷ xs)) ≡ true) (sym (take_while-cons p x xs))
+    (prefix_by p x xs (p x) refl (prefix_passes p xs))
 
--- what stands before the quote that closes a string is plain
-pub plain_before : (bytes t s : List ℕ) (n : ℕ) → bytes ≡ t → n ≡ length (take_while is_plain bytes) → s ≡ take n t
-    → list_all is_plain s ≡ true
-plain_before bytes t s n v len p =
-    ap (list_all is_plain) (p ∙ ap (take n) (sym v) ∙ ap (λ k. take k bytes) len) ∙ prefix_is_plain bytes
+-- what stands before the quote that closes a string stands for itself
+pub inside_before : (q : ℕ) (bytes t s : List ℕ) (n : ℕ) → bytes ≡ t
+    → n ≡ length (take_while (is_inside q) bytes) → s ≡ take n t → list_all (is_inside q) s ≡ true
+inside_before q bytes t s n v len p =
+    ap (list_all (is_inside q)) (p ∙ ap (take n) (sym v) ∙ ap (λ k. take k bytes) len) ∙ prefix_passes (is_inside q) bytes
 
 pub string_passed : (text opened inside rest plain : List ℕ)
     → lex between opened ≡ lex between text → opened ≡ 34 ∷ inside → inside ≡ plain ++ 34 ∷ rest

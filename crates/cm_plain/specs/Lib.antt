@@ -1,2 +1,3 @@
 pub mod Plain
 pub mod JsonTree
+pub mod Relaxed

@@ -19,9 +19,13 @@ use Rattle.serde_json.specs.Read.{of_json, of_items, of_members, converted, read
 use Rattle.cm_plain.specs.JsonTree.{view}
 use Rattle.cm_plain.specs.declared.tree.JsonTree.{JsonTree}
 
--- whether a byte stands for itself in a string
+-- whether a byte stands for itself in a string with this quote
+abbrev pub is_inside : ℕ → ℕ → Bool
+is_inside q b = not ((b == q) || (b == 92) || nat_lt b 32)
+
+-- whether a byte stands for itself in a string of JSON
 abbrev pub is_plain : ℕ → Bool
-is_plain b = not ((b == 34) || (b == 92) || nat_lt b 32)
+is_plain b = is_inside 34 b
 
 -- whether the text begins with this byte
 abbrev pub begins : ℕ → List ℕ → Bool

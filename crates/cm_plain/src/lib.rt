@@ -1,12 +1,14 @@
-//! Reads JSON texts that have no escapes, numbers or words, also where the text is in the relaxed spelling
-//! of JSON: such a text reads as its JSON does.
+//! Reads texts that have no escapes, numbers or words in one pass: JSON, and the relaxed spelling of JSON.
 //!
-//! `specs/Plain` speaks of texts that are read in one pass, lexeme by lexeme, and of texts that read as
-//! their JSON. `specs/JsonTree` says which JSON value a value with borrowed texts stands for.
+//! `specs/Plain` speaks of texts of JSON that are read lexeme by lexeme, `specs/Relaxed` of texts in the
+//! relaxed spelling that are read token by token, and of what their JSON says. `specs/JsonTree` says which
+//! JSON value a value with borrowed texts stands for.
 #![tactic(auto)]
 
 mod plain;
+mod relaxed;
 mod tree;
 
 pub use plain::read_plain;
+pub use relaxed::read_relaxed;
 pub use tree::{JsonTree, tree_of};

@@ -22,10 +22,10 @@ use crate::tree::JsonTree;
 use std::alloc::Global;
 
 /// How deep the arrays and objects that are read here may nest: as deep as a JSON text's may.
-const MAX_DEPTH: usize = 127;
+pub(crate) const MAX_DEPTH: usize = 127;
 
 /// Whether the text begins with this byte.
-fn is_next(text: &[u8], byte: u8) -> bool
+pub(crate) fn is_next(text: &[u8], byte: u8) -> bool
     ensures { result ≡ spec.begins byte text.now }
 {
     match text {
@@ -42,7 +42,7 @@ fn is_space(byte: u8) -> bool
 }
 
 /// Whether the text begins with a space, which is passed over.
-fn begins_space(text: &[u8]) -> bool
+pub(crate) fn begins_space(text: &[u8]) -> bool
     ensures { result ≡ bytes.begins_with bytes.is_space text.now }
 {
     match text {
@@ -52,7 +52,7 @@ fn begins_space(text: &[u8]) -> bool
 }
 
 /// What stands after this byte of ASCII, where it is next.
-fn behind_byte(text: &str, byte: u8) -> Option<&str>
+pub(crate) fn behind_byte(text: &str, byte: u8) -> Option<&str>
     requires { byte < 128 }
     ensures { IfSome result (λ rest. text.now ≡ byte ∷ rest.now) }
 {
@@ -102,28 +102,30 @@ fn behind_mark(text: &str, mark: u8) -> Option<&str>
     Some(rest)
 }
 
-/// Whether the byte stands for itself in a string.
-fn is_plain(byte: u8) -> bool
-    ensures { result ≡ spec.is_plain byte }
+/// Whether the byte stands for itself in a string with this quote.
+fn is_inside(quote: u8, byte: u8) -> bool
+    ensures { result ≡ spec.is_inside quote byte }
 {
-    !(byte == b'"' || byte == b'\\' || byte < b' ')
+    !(byte == quote || byte == b'\\' || byte < b' ')
 }
 
-/// How many bytes of the prefix stand for themselves in a string.
-fn plain_len(text: &[u8]) -> usize
-    ensures { result ≡ length (take_while spec.is_plain text.now) }
+/// How many bytes of the prefix stand for themselves in a string with this quote.
+fn inside_len(text: &[u8], quote: u8) -> usize
+    ensures { result ≡ length (take_while (spec.is_inside quote) text.now) }
 {
-    text.iter().take_while(|byte| is_plain(**byte)).count()
+    text.iter().take_while(|byte| is_inside(quote, **byte)).count()
 }
 
-/// What stands before the quote that closes a plain string, and after it.
-fn split_string(text: &str) -> Option<(&str, &str)>
-    ensures parts { IfSome result (λ parts. text.now ≡ parts.0.now ++ 34 ∷ parts.1.now) }
-    ensures plain { IfSome result (λ parts. list_all spec.is_plain parts.0.now ≡ true) }
+/// What stands before the quote that closes a string without escapes, and after it.
+#[inline(always)]
+pub(crate) fn split_string(text: &str, quote: u8) -> Option<(&str, &str)>
+    requires { quote < 128 }
+    ensures parts { IfSome result (λ parts. text.now ≡ parts.0.now ++ quote ∷ parts.1.now) }
+    ensures plain { IfSome result (λ parts. list_all (spec.is_inside quote) parts.0.now ≡ true) }
 {
     let bytes = text.as_bytes();
-    let len = plain_len(bytes);
-    if !is_next(&bytes[len..], b'"') {
+    let len = inside_len(bytes, quote);
+    if !is_next(&bytes[len..], quote) {
         return None;
     }
     Some((&text[..len], &text[len + 1..]))
@@ -137,7 +139,7 @@ fn read_string(text: &str) -> Option<(&str, &str)>
     ensures shorter { IfSome result (λ read. length read.1.now < length text.now) }
 {
     let inside = behind_byte(behind_space(text), b'"')?;
-    let (plain, rest) = split_string(inside)?;
+    let (plain, rest) = split_string(inside, b'"')?;
     Some((plain, rest))
 }
 

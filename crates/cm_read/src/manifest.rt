@@ -20,7 +20,7 @@ use crate::rows::SectionRows;
 use crate::sections::{SectionItem, section_of};
 use cm_decl::{Child, Decl, Section};
 use cm_names::{List, Memory, Name, Text};
-use cm_plain::{JsonTree, read_plain, tree_of};
+use cm_plain::{JsonTree, read_plain, read_relaxed, tree_of};
 use cm_text::TextFault;
 use serde_json::Value;
 use std::alloc::Global;
@@ -237,15 +237,15 @@ fn json_text(alloc: Global, text: &str) -> Result<Text, ReadFault>
     }
 }
 
-/// The declaration of a text in the relaxed spelling. That of a plain text is read from the text
-/// itself, and its JSON isn't written.
+/// The declaration of a text in the relaxed spelling. Where the text has no escapes, numbers or words it is
+/// read from the text itself, and its JSON isn't written.
 fn decl_of_text(alloc: Global, text: &str) -> Result<Decl, ReadFault>
     requires { length text.now < 2 ^ 32 }
     ensures decl { GivesReading result (spec.decl_of_text text.now) }
     ensures readable { IfOk result IsReadable }
     ensures formed { IfOk result (λ d. IsTrue (is_well_formed d)) }
 {
-    if let Some(tree) = read_plain(alloc, text) {
+    if let Some(tree) = read_relaxed(alloc, text) {
         return decl_of(alloc, &tree);
     }
     let json = json_text(alloc, text)?;

@@ -1,14 +1,13 @@
-use Rattle.std.proofs.Common.{sym, ap, ◌∙◌, subst}
+use Rattle.std.proofs.Common.{sym, subst}
 use Rattle.cm_plain.specs.JsonTree.{view}
-use Rattle.cm_read.specs.Manifest.{of_data}
 use Rattle.cm_read.specs.ReadingInside.{GivesReading}
-use Rattle.cm_read.proofs.TextLemmas.{plain_decl}
+use Rattle.cm_read.proofs.TextLemmas.{relaxed_decl}
 use Rattle.cm_read.proofs.reading.DeclRead.{is_of_data}
 use Rattle.cm_read.proofs.manifest.decl_of_text.Goals as goal
 
 pub returns-in-Some-clause-decl : goal.returns-in-Some-clause-decl
 returns-in-Some-clause-decl c =
-    let same = plain_decl c.args.text.now c.in-Some.ensures.json ∙ ap of_data c.in-Some.ensures.value in
+    let same = relaxed_decl c.args.text.now (view c.in-Some.tree) c.in-Some.ensures in
     subst (GivesReading c.decl_of.result) (sym same) c.decl_of.ensures
 
 pub returns-in-Some-clause-readable : goal.returns-in-Some-clause-readable
