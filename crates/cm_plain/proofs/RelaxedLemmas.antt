@@ -24,7 +24,7 @@ use Rattle.cm_text.proofs.JsonLemmas.{behind_nothing}
 use Rattle.cm_text.proofs.pieces.PieceLemmas.{are_computed}
 use Rattle.cm_plain.specs.JsonTree.{view, items_view, members_view}
 use Rattle.cm_plain.specs.Plain.{is_plain, is_inside, HasValue, HasItems, HasMembers}
-use Rattle.cm_plain.specs.Relaxed.{is_trailing, shown, Opens, Passes, HasString, HasKey, GivesValue, GivesItems}
+use Rattle.cm_plain.specs.Relaxed.{is_trailing, shown, NoClosing, PassesTokens, HasString, HasKey, GivesValue, GivesItems}
 use Rattle.cm_plain.specs.Relaxed.{GivesMembers, TakesItem, TakesMember, JsonReads}
 use Rattle.cm_plain.specs.declared.tree.JsonTree.{JsonTree, Array, Object}
 use Rattle.cm_plain.specs.declared.tree.JsonTree as made
@@ -48,11 +48,11 @@ are_then (p ∷ ps) qs mid rest e h k =
     let follows : may_follow p (bytes_of (ps ++ qs) ++ rest) ≡ true = ap (may_follow p) same ∙ one.1 in
     rw (one.0, follows) (are_then ps qs mid rest e two.1 k)
 
-pub passes_nothing : (text : List ℕ) → Passes text [] text
+pub passes_nothing : (text : List ℕ) → PassesTokens text [] text
 passes_nothing text = record { passed = []; splits = record { bytes = refl; pieces = refl }; tokens = refl }
 
-pub passes_then : (text mid rest : List ℕ) (ts us : List Token) → Passes text ts mid → Passes mid us rest
-    → Passes text (ts ++ us) rest
+pub passes_then : (text mid rest : List ℕ) (ts us : List Token) → PassesTokens text ts mid → PassesTokens mid us rest
+    → PassesTokens text (ts ++ us) rest
 passes_then text mid rest ts us first next = record {
   passed = first.passed ++ next.passed;
   splits = record {
@@ -64,14 +64,14 @@ passes_then text mid rest ts us first next = record {
 }
 
 passes_one : (p : Piece) (text rest : List ℕ) (ts : List Token) → piece_bytes p ++ rest ≡ text
-    → is_piece p ≡ true → may_follow p rest ≡ true → tokens_of (p ∷ []) ≡ ts → Passes text ts rest
+    → is_piece p ≡ true → may_follow p rest ≡ true → tokens_of (p ∷ []) ≡ ts → PassesTokens text ts rest
 passes_one p text rest ts bytes is follows tokens = record {
   passed = p ∷ [];
   splits = record { bytes = ap (λ l. l ++ rest) (append-nil (piece_bytes p)) ∙ bytes; pieces = rw (is, follows) refl };
   tokens = tokens;
 }
 
-pub passes_space : (t rest : List ℕ) → begins_with is_space t ≡ true → rest ≡ drop 1 t → Passes t [] rest
+pub passes_space : (t rest : List ℕ) → begins_with is_space t ≡ true → rest ≡ drop 1 t → PassesTokens t [] rest
 passes_space [] rest h e = absurd (cc)
 passes_space (x ∷ xs) rest h e =
     let is : is_space x ≡ true = h in
@@ -83,16 +83,16 @@ no_tokens (space b) e = refl
 no_tokens (line_comment bs) e = refl
 no_tokens (block_comment bs) e = refl
 
-pub passes_blank : (text rest : List ℕ) → BehindBlank text rest → Passes text [] rest
+pub passes_blank : (text rest : List ℕ) → BehindBlank text rest → PassesTokens text [] rest
 passes_blank text rest b = record { passed = b.blank ∷ []; splits = b.splits; tokens = no_tokens b.blank b.no_token }
 
 passes_mark : (b : ℕ) (text rest : List ℕ) → class b ≡ operator → text ≡ b ∷ rest
-    → Passes text (mark b ∷ []) rest
+    → PassesTokens text (mark b ∷ []) rest
 passes_mark b text rest h e = passes_one (piece (mark b)) text rest (mark b ∷ []) (sym e) (class_mark b h) refl refl
 
 -- with the gap behind it
-pub mark_read : (b : ℕ) (text behind rest : List ℕ) → class b ≡ operator → text ≡ b ∷ behind → Passes behind [] rest
-    → Passes text (mark b ∷ []) rest
+pub mark_read : (b : ℕ) (text behind rest : List ℕ) → class b ≡ operator → text ≡ b ∷ behind → PassesTokens behind [] rest
+    → PassesTokens text (mark b ∷ []) rest
 mark_read b text behind rest h e gap = passes_then text behind rest (mark b ∷ []) [] (passes_mark b text behind h e) gap
 
 chars_inside : (q : ℕ) (s : List ℕ) → list_all (is_inside q) s ≡ true → list_all (is_char q) (map plain s) ≡ true
@@ -109,7 +109,7 @@ quoted_bytes q s rest =
     ∙ ap (λ l. q ∷ (l ++ q ∷ rest)) (chars_back s)
 
 passes_quoted : (q : ℕ) (s text inside rest : List ℕ) → is_quote q ≡ true → list_all (is_inside q) s ≡ true
-    → text ≡ q ∷ inside → inside ≡ s ++ q ∷ rest → Passes text (quoted q (map plain s) ∷ []) rest
+    → text ≡ q ∷ inside → inside ≡ s ++ q ∷ rest → PassesTokens text (quoted q (map plain s) ∷ []) rest
 passes_quoted q s text inside rest quote all o e =
     let is : is_piece (piece (quoted q (map plain s))) ≡ true = rw (quote, chars_inside q s all) refl in
     passes_one (piece (quoted q (map plain s))) text rest _
@@ -200,7 +200,7 @@ object_shown : (v : Bool) (more : List Token)
     → lex between (shown v (mark 125 ∷ more)) ≡ token end_object ∷ lex between (shown true more)
 object_shown v more = behind_a_space _ ∙ at_mark 125 (shown true more) refl
 
-comma_shown : (v : Bool) (more : List Token) → Opens more
+comma_shown : (v : Bool) (more : List Token) → NoClosing more
     → lex between (shown v (mark 44 ∷ more)) ≡ comma ∷ lex between (shown false more)
 comma_shown v more opens =
     let stays : is_trailing v (mark 44) (head_of more) ≡ false = rw opens refl in
@@ -219,7 +219,7 @@ object_trails more = object_shown false more
 -- ---- strings and keys
 
 pub string_read : (q : ℕ) (s text inside behind rest : List ℕ) → is_quote q ≡ true
-    → list_all (is_inside q) s ≡ true → text ≡ q ∷ inside → inside ≡ s ++ q ∷ behind → Passes behind [] rest
+    → list_all (is_inside q) s ≡ true → text ≡ q ∷ inside → inside ≡ s ++ q ∷ behind → PassesTokens behind [] rest
     → HasString text s rest
 string_read q s text inside behind rest quote all o e gap = record {
   spelled = quoted q (map plain s);
@@ -237,7 +237,7 @@ string_is_key text s rest h = record {
   lexed = λ v more. h.lexed v (mark 58 ∷ more);
 }
 
-pub key_read : (text k behind rest : List ℕ) → BehindKey text k behind → Passes behind [] rest → HasKey text k rest
+pub key_read : (text k behind rest : List ℕ) → BehindKey text k behind → PassesTokens behind [] rest → HasKey text k rest
 key_read text k behind rest h gap = record {
   spelled = word k;
   passes = passes_then text behind rest (word k ∷ []) []
@@ -259,7 +259,7 @@ string_value depth text rest s h = record {
 }
 
 pub items_value : (depth : ℕ) (text inside rest : List ℕ) (v : Vec JsonTree Global) → 0 < depth
-    → Passes text (mark 91 ∷ []) inside → GivesItems (depth - 1) inside (items_view v.items) rest
+    → PassesTokens text (mark 91 ∷ []) inside → GivesItems (depth - 1) inside (items_view v.items) rest
     → GivesValue depth text (view (Array v)) rest
 items_value depth text inside rest v some p g = record {
   ts = mark 91 ∷ g.ts;
@@ -271,7 +271,7 @@ items_value depth text inside rest v some p g = record {
 }
 
 pub members_value : (depth : ℕ) (text inside rest : List ℕ) (m : Vec Member Global) → 0 < depth
-    → Passes text (mark 123 ∷ []) inside → GivesMembers (depth - 1) inside (members_view m.items) rest
+    → PassesTokens text (mark 123 ∷ []) inside → GivesMembers (depth - 1) inside (members_view m.items) rest
     → GivesValue depth text (view (Object m)) rest
 members_value depth text inside rest m some p g = record {
   ts = mark 123 ∷ g.ts;
@@ -296,7 +296,7 @@ item_taken depth text rest old new v g e = record {
 -- the tokens of some items were passed
 pub record ItemsRead (depth : ℕ) (text : List ℕ) (found : List JsonTree) (rest : List ℕ) : Type 0 where
   pub ts : List Token
-  pub passes : Passes text ts rest
+  pub passes : PassesTokens text ts rest
   pub so : (v : Bool) (more : List Token) → ItemsSo depth (shown v (ts ++ more)) found (shown true more)
 
 pub items_first : (depth : ℕ) (text : List ℕ) (old new : List JsonTree) (rest : List ℕ) → old ≡ []
@@ -308,7 +308,7 @@ items_first depth text old new rest none t = record {
 }
 
 pub items_next : (depth : ℕ) (text : List ℕ) (old new : List JsonTree) (mid behind rest : List ℕ)
-    → ItemsRead depth text old mid → Passes mid (mark 44 ∷ []) behind → TakesItem depth behind old new rest
+    → ItemsRead depth text old mid → PassesTokens mid (mark 44 ∷ []) behind → TakesItem depth behind old new rest
     → ItemsRead depth text new rest
 items_next depth text old new mid behind rest r p t = record {
   ts = r.ts ++ (mark 44 ∷ t.ts);
@@ -322,7 +322,7 @@ items_next depth text old new mid behind rest r p t = record {
 }
 
 items_over : (depth : ℕ) (text : List ℕ) (found : List JsonTree) (mid rest : List ℕ) (us : List Token)
-    → ItemsRead depth text found mid → Passes mid us rest
+    → ItemsRead depth text found mid → PassesTokens mid us rest
     → ((more : List Token) → lex between (shown true (us ++ more)) ≡ token end_array ∷ lex between (shown true more))
     → GivesItems depth text (items_view found) rest
 items_over depth text found mid rest us r p closes = record {
@@ -335,18 +335,18 @@ items_over depth text found mid rest us r p closes = record {
 }
 
 pub items_close : (depth : ℕ) (text : List ℕ) (found : List JsonTree) (mid rest : List ℕ)
-    → ItemsRead depth text found mid → Passes mid (mark 93 ∷ []) rest → GivesItems depth text (items_view found) rest
+    → ItemsRead depth text found mid → PassesTokens mid (mark 93 ∷ []) rest → GivesItems depth text (items_view found) rest
 items_close depth text found mid rest r p = items_over depth text found mid rest (mark 93 ∷ []) r p (array_shown true)
 
 pub items_trail : (depth : ℕ) (text : List ℕ) (found : List JsonTree) (mid behind rest : List ℕ)
-    → ItemsRead depth text found mid → Passes mid (mark 44 ∷ []) behind → Passes behind (mark 93 ∷ []) rest
+    → ItemsRead depth text found mid → PassesTokens mid (mark 44 ∷ []) behind → PassesTokens behind (mark 93 ∷ []) rest
     → GivesItems depth text (items_view found) rest
 items_trail depth text found mid behind rest r p q =
     items_over depth text found mid rest (mark 44 ∷ mark 93 ∷ []) r
     (passes_then mid behind rest (mark 44 ∷ []) (mark 93 ∷ []) p q) array_trails
 
 pub items_none : (depth : ℕ) (text : List ℕ) (found : List JsonTree) (rest : List ℕ) → found ≡ []
-    → Passes text (mark 93 ∷ []) rest → GivesItems depth text (items_view found) rest
+    → PassesTokens text (mark 93 ∷ []) rest → GivesItems depth text (items_view found) rest
 items_none depth text found rest none p = record {
   ts = mark 93 ∷ [];
   passes = p;
@@ -357,7 +357,7 @@ items_none depth text found rest none p = record {
 -- ---- members
 
 pub member_taken : (depth : ℕ) (text mid behind rest : List ℕ) (old new : List Member) (k : Bor (List ℕ)) (v : JsonTree)
-    → HasKey text k.now mid → Passes mid (mark 58 ∷ []) behind → GivesValue depth behind (view v) rest
+    → HasKey text k.now mid → PassesTokens mid (mark 58 ∷ []) behind → GivesValue depth behind (view v) rest
     → new ≡ old ++ (k, v) ∷ []
     → TakesMember depth text (members_view old) (members_view new) rest
 member_taken depth text mid behind rest old new k v h p g e = record {
@@ -374,7 +374,7 @@ member_taken depth text mid behind rest old new k v h p g e = record {
 -- the tokens of some members were passed
 pub record MembersRead (depth : ℕ) (text : List ℕ) (found : Members) (rest : List ℕ) : Type 0 where
   pub ts : List Token
-  pub passes : Passes text ts rest
+  pub passes : PassesTokens text ts rest
   pub so : (v : Bool) (more : List Token) → MembersSo depth (shown v (ts ++ more)) found (shown true more)
 
 pub members_first : (depth : ℕ) (text : List ℕ) (old : List Member) (new : Members) (rest : List ℕ) → old ≡ []
@@ -386,7 +386,7 @@ members_first depth text old new rest none t = record {
 }
 
 pub members_next : (depth : ℕ) (text : List ℕ) (old new : Members) (mid behind rest : List ℕ)
-    → MembersRead depth text old mid → Passes mid (mark 44 ∷ []) behind → TakesMember depth behind old new rest
+    → MembersRead depth text old mid → PassesTokens mid (mark 44 ∷ []) behind → TakesMember depth behind old new rest
     → MembersRead depth text new rest
 members_next depth text old new mid behind rest r p t = record {
   ts = r.ts ++ (mark 44 ∷ t.ts);
@@ -400,7 +400,7 @@ members_next depth text old new mid behind rest r p t = record {
 }
 
 members_over : (depth : ℕ) (text : List ℕ) (found : Members) (mid rest : List ℕ) (us : List Token)
-    → MembersRead depth text found mid → Passes mid us rest
+    → MembersRead depth text found mid → PassesTokens mid us rest
     → ((more : List Token) → lex between (shown true (us ++ more)) ≡ token end_object ∷ lex between (shown true more))
     → GivesMembers depth text found rest
 members_over depth text found mid rest us r p closes = record {
@@ -413,19 +413,19 @@ members_over depth text found mid rest us r p closes = record {
 }
 
 pub members_close : (depth : ℕ) (text : List ℕ) (found : Members) (mid rest : List ℕ)
-    → MembersRead depth text found mid → Passes mid (mark 125 ∷ []) rest → GivesMembers depth text found rest
+    → MembersRead depth text found mid → PassesTokens mid (mark 125 ∷ []) rest → GivesMembers depth text found rest
 members_close depth text found mid rest r p =
     members_over depth text found mid rest (mark 125 ∷ []) r p (object_shown true)
 
 pub members_trail : (depth : ℕ) (text : List ℕ) (found : Members) (mid behind rest : List ℕ)
-    → MembersRead depth text found mid → Passes mid (mark 44 ∷ []) behind → Passes behind (mark 125 ∷ []) rest
+    → MembersRead depth text found mid → PassesTokens mid (mark 44 ∷ []) behind → PassesTokens behind (mark 125 ∷ []) rest
     → GivesMembers depth text found rest
 members_trail depth text found mid behind rest r p q =
     members_over depth text found mid rest (mark 44 ∷ mark 125 ∷ []) r
     (passes_then mid behind rest (mark 44 ∷ []) (mark 125 ∷ []) p q) object_trails
 
 pub members_none : (depth : ℕ) (text : List ℕ) (found : List Member) (rest : List ℕ) → found ≡ []
-    → Passes text (mark 125 ∷ []) rest → GivesMembers depth text (members_view found) rest
+    → PassesTokens text (mark 125 ∷ []) rest → GivesMembers depth text (members_view found) rest
 members_none depth text found rest none p = record {
   ts = mark 125 ∷ [];
   passes = p;
@@ -469,10 +469,10 @@ all_shown (t ∷ ts) =
     ∙ ap (λ g. lex between ((if g then [] else 32 ∷ one) ++ shown (not (is_mark_of keeps_comma (Some t))) ts))
     (sym (no_test (is_mark_of is_comma (Some t)) closes))
 
-pub text_gives : (text inside rest : List ℕ) (d : Data) → Passes text [] inside → GivesValue 127 inside d rest
+pub text_gives : (text inside rest : List ℕ) (d : Data) → PassesTokens text [] inside → GivesValue 127 inside d rest
     → length rest ≡ 0 → JsonReads text d
 text_gives text inside rest d gap g none =
-    let all : Passes text g.ts rest = passes_then text inside rest [] g.ts gap g.passes in
+    let all : PassesTokens text g.ts rest = passes_then text inside rest [] g.ts gap g.passes in
     let has : AreTokensOf text g.ts = record {
       ps = all.passed;
       whole = subst (SplitsInto text all.passed) (nothing_behind rest none) all.splits;

@@ -9,7 +9,8 @@ use Rattle.serde_json.specs.Data.{Data, Items, Members}
 use Rattle.serde_json.specs.Read.{read}
 use Rattle.cm_text.specs.Token.{Token, mark, Piece, tokens_of}
 use Rattle.cm_text.specs.Split.{SplitsInto}
-use Rattle.cm_text.specs.Json.{json_of, token_json, is_comma, is_colon, is_closing, keeps_comma, is_mark_of, head_of}
+use Rattle.cm_text.specs.Json.{json_of, token_json, is_comma, is_colon, is_closing, keeps_comma, is_mark_of}
+use Rattle.cm_text.specs.Json.{head_of}
 use Rattle.cm_plain.specs.Plain.{HasValue, HasItems, HasMembers, AddsItem, AddsMember}
 use Rattle.cm_plain.specs.declared.tree.JsonTree.{JsonTree}
 
@@ -30,13 +31,13 @@ shown v [] = []
 shown v (t ∷ ts) = shown_one v t (head_of ts) ++ shown (not (is_mark_of keeps_comma (Some t))) ts
 
 -- whether the first token isn't a mark that closes something
-abbrev pub Opens : List Token → Type 0
-Opens ts = is_mark_of is_closing (head_of ts) ≡ false
+abbrev pub NoClosing : List Token → Type 0
+NoClosing ts = is_mark_of is_closing (head_of ts) ≡ false
 
 -- ---- what was read
 
 -- these tokens were passed, with the spaces and comments around them, and this rest follows
-pub record Passes (text : List ℕ) (ts : List Token) (rest : List ℕ) : Type 0 where
+pub record PassesTokens (text : List ℕ) (ts : List Token) (rest : List ℕ) : Type 0 where
   pub passed : List Piece
   pub splits : SplitsInto text passed rest
   pub tokens : tokens_of passed ≡ ts
@@ -44,16 +45,16 @@ pub record Passes (text : List ℕ) (ts : List Token) (rest : List ℕ) : Type 0
 -- the text begins with this string, and this rest follows
 pub record HasString (text s rest : List ℕ) : Type 0 where
   pub spelled : Token
-  pub passes : Passes text (spelled ∷ []) rest
-  pub opens : Opens (spelled ∷ [])
+  pub passes : PassesTokens text (spelled ∷ []) rest
+  pub opens : NoClosing (spelled ∷ [])
   pub lexed : (v : Bool) (more : List Token)
       → lex between (shown v (spelled ∷ more)) ≡ token (string s) ∷ lex between (shown true more)
 
 -- the text begins with this key, if a colon is next in the rest that follows
 pub record HasKey (text s rest : List ℕ) : Type 0 where
   pub spelled : Token
-  pub passes : Passes text (spelled ∷ []) rest
-  pub opens : Opens (spelled ∷ [])
+  pub passes : PassesTokens text (spelled ∷ []) rest
+  pub opens : NoClosing (spelled ∷ [])
   pub lexed : (v : Bool) (more : List Token)
       → lex between (shown v (spelled ∷ mark 58 ∷ more))
       ≡ token (string s) ∷ lex between (shown true (mark 58 ∷ more))
@@ -62,35 +63,36 @@ pub record HasKey (text s rest : List ℕ) : Type 0 where
 -- still lie in each other
 pub record GivesValue (depth : ℕ) (text : List ℕ) (d : Data) (rest : List ℕ) : Type 0 where
   pub ts : List Token
-  pub passes : Passes text ts rest
-  pub opens : (more : List Token) → Opens (ts ++ more)
+  pub passes : PassesTokens text ts rest
+  pub opens : (more : List Token) → NoClosing (ts ++ more)
   pub gives : (v : Bool) (more : List Token) → HasValue depth (shown v (ts ++ more)) d (shown true more)
 
 -- the text begins with the tokens of these items of a list, up to its closing bracket
 pub record GivesItems (depth : ℕ) (text : List ℕ) (ds : Items) (rest : List ℕ) : Type 0 where
   pub ts : List Token
-  pub passes : Passes text ts rest
+  pub passes : PassesTokens text ts rest
   pub gives : (v : Bool) (more : List Token) → HasItems depth (shown v (ts ++ more)) ds (shown true more)
 
 -- the text begins with the tokens of these members of an object, up to its closing brace
 pub record GivesMembers (depth : ℕ) (text : List ℕ) (ms : Members) (rest : List ℕ) : Type 0 where
   pub ts : List Token
-  pub passes : Passes text ts rest
+  pub passes : PassesTokens text ts rest
   pub gives : (v : Bool) (more : List Token) → HasMembers depth (shown v (ts ++ more)) ms (shown true more)
 
 -- the reader has taken the tokens of one more item of a list
 pub record TakesItem (depth : ℕ) (text : List ℕ) (old new : List JsonTree) (rest : List ℕ) : Type 0 where
   pub ts : List Token
-  pub passes : Passes text ts rest
-  pub opens : (more : List Token) → Opens (ts ++ more)
+  pub passes : PassesTokens text ts rest
+  pub opens : (more : List Token) → NoClosing (ts ++ more)
   pub adds : (v : Bool) (more : List Token) → AddsItem depth (shown v (ts ++ more)) old new (shown true more)
 
 -- the reader has taken the tokens of one more member of an object
 pub record TakesMember (depth : ℕ) (text : List ℕ) (old new : Members) (rest : List ℕ) : Type 0 where
   pub ts : List Token
-  pub passes : Passes text ts rest
-  pub opens : (more : List Token) → Opens (ts ++ more)
-  pub adds : (v : Bool) (more : List Token) → AddsMember depth (shown v (ts ++ more)) old new (shown true more)
+  pub passes : PassesTokens text ts rest
+  pub opens : (more : List Token) → NoClosing (ts ++ more)
+  pub adds : (v : Bool) (more : List Token)
+      → AddsMember depth (shown v (ts ++ more)) old new (shown true more)
 
 -- the text in the relaxed spelling has a JSON text, which reads as this value
 pub record JsonReads (text : List ℕ) (d : Data) : Type 0 where

@@ -8,8 +8,8 @@ ghost use Rattle.json.specs.Lex.{class, operator};
 ghost use Rattle.cm_text.specs.Bytes.{is_quote};
 ghost use Rattle.cm_text.specs.Token.{mark};
 ghost use Rattle.cm_plain.specs.JsonTree.{view, items_view, members_view};
-ghost use Rattle.cm_plain.specs.Relaxed.{Passes, HasString, HasKey, GivesValue, GivesItems, GivesMembers};
-ghost use Rattle.cm_plain.specs.Relaxed.{TakesItem, TakesMember, JsonReads};
+ghost use Rattle.cm_plain.specs.Relaxed.{PassesTokens, HasString, HasKey, GivesValue, GivesItems};
+ghost use Rattle.cm_plain.specs.Relaxed.{GivesMembers, TakesItem, TakesMember, JsonReads};
 
 use crate::plain::{begins_space, behind_byte, is_next, split_string, MAX_DEPTH};
 use crate::tree::JsonTree;
@@ -19,7 +19,7 @@ use std::alloc::Global;
 /// What stands after a space or a comment that is next.
 #[tactic(auto, using(crate::proofs::RelaxedLemmas::passes_space, crate::proofs::RelaxedLemmas::passes_blank))]
 fn behind_one(text: &str) -> Option<&str>
-    ensures passed { IfSome result (λ rest. Passes text.now [] rest.now) }
+    ensures passed { IfSome result (λ rest. PassesTokens text.now [] rest.now) }
     ensures shorter { IfSome result (λ rest. length rest.now < length text.now) }
 {
     if begins_space(text.as_bytes()) {
@@ -34,7 +34,7 @@ fn behind_one(text: &str) -> Option<&str>
 
 /// What stands after the spaces and comments that come first.
 fn behind_gap(text: &str) -> &str
-    ensures passed { Passes text.now [] result.now }
+    ensures passed { PassesTokens text.now [] result.now }
     ensures shorter { length result.now ≤ length text.now }
 {
     let mut left = text;
@@ -49,7 +49,7 @@ fn behind_gap(text: &str) -> &str
 fn behind_mark(text: &str, sign: u8) -> Option<&str>
     requires operates { class sign ≡ operator }
     requires ascii { sign < 128 }
-    ensures passed { IfSome result (λ rest. Passes text.now (mark sign ∷ []) rest.now) }
+    ensures passed { IfSome result (λ rest. PassesTokens text.now (mark sign ∷ []) rest.now) }
     ensures shorter { IfSome result (λ rest. length rest.now < length text.now) }
 {
     let rest = behind_byte(text, sign)?;
