@@ -16,7 +16,7 @@ use crate::token::Token;
 use std::alloc::{AllocError, Global};
 
 /// Whether a key with no quotes may begin with the first byte.
-fn first_begins_key(bytes: &[u8]) -> bool
+pub(crate) fn first_begins_key(bytes: &[u8]) -> bool
     ensures { result ≡ bytes_spec.begins_with bytes_spec.begins_key bytes.now }
 {
     match bytes {
@@ -33,7 +33,7 @@ fn all_continue_key(bytes: &[u8]) -> bool
 }
 
 /// Whether a word may be a key with no quotes.
-pub(crate) fn is_bare_key(word: &str) -> bool
+fn is_bare_key(word: &str) -> bool
     ensures { result ≡ spec.is_bare_key word.now }
 {
     let bytes = word.as_bytes();

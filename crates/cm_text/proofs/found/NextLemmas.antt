@@ -1,17 +1,23 @@
 -- What stands behind the first piece of a text.
-use Rattle.std.proofs.Common.{◌≡◌, ℕ, ◌<◌, List, [], ◌∷◌, length, true, Option, Some, None, refl, sym, ap, ◌∙◌, subst, arith, rules, drop, length-drop}
-use Rattle.std.proofs.lemmas.Option.{none-some}
+use Rattle.std.proofs.Common.{◌≡◌, ℕ, ◌-◌, List, [], ◌∷◌, length, true, false, not, ◌==◌, Option, Some, None, refl, sym, ap, ◌∙◌, subst, arith, rules, drop, take, take_while}
 use Rattle.std.proofs.Transfers.{drop-appended}
-use Rattle.cm_text.specs.Token.{Token, word, Piece, token, space, line_comment, block_comment, piece_bytes, piece_token}
+use Rattle.std.specs.Str.{IsUtf8, IsCharBoundary}
+use Rattle.std.specs.List.{list_all}
+use Rattle.std.proofs.lemmas.List.{take_rest, take-append-le, take_all}
+use Rattle.cm_text.specs.Bytes.{begins_with, begins_key, continues_key, is_word_byte}
+use Rattle.cm_text.specs.Token.{Token, word, Piece, token, piece_bytes}
 use Rattle.cm_text.specs.Split.{SplitsInto}
 use Rattle.cm_text.specs.Json.{is_bare_key}
 use Rattle.cm_text.specs.Scan.{outline, first_of_text}
 use Rattle.cm_text.specs.Next.{BehindBlank, BehindKey}
-use Rattle.cm_text.proofs.pieces.SoundLemmas.{Stands}
+use Rattle.cm_text.specs.declared.token.Token.{Token as CodeToken}
+use Rattle.cm_text.proofs.ByteLemmas.{both_left, both_right}
+use Rattle.cm_text.proofs.pieces.PieceLemmas.{run_more}
+use Rattle.cm_text.proofs.pieces.SoundLemmas.{Stands, runs, some_bytes_there}
+use Rattle.cm_text.proofs.pieces.CutLemmas.{stands_cut}
 use Rattle.cm_text.proofs.pieces.CoverLemmas.{begins_more}
 use Rattle.cm_text.proofs.found.OutlineLemmas.{found, is_found}
 use Rattle.cm_text.proofs.found.LoopLemmas.{some_token_of}
-use Rattle.cm_text.specs.declared.token.Token.{Token as CodeToken}
 
 -- a piece that stands at a text's beginning, and the rest
 splits_there : (p : Piece) (text rest : List ℕ) (n : ℕ) → Stands p text → length (piece_bytes p) ≡ n → rest ≡ drop n text
@@ -30,18 +36,62 @@ blank_passed text rest t n cut none h =
     let f = is_found text t 0 n h in
     record { blank = f.p; no_token = f.token ∙ none; splits = splits_there f.p text rest n f.stands f.size cut }
 
-token_piece : (p : Piece) (t : Token) → piece_token p ≡ Some t → p ≡ token t
-token_piece (token u) t e = ap (λ o. elim o as (λ _. Piece) [ None ↦ token u | Some x ↦ token x ]) e
-token_piece (space b) t e = absurd (none-some t e)
-token_piece (line_comment bs) t e = absurd (none-some t e)
-token_piece (block_comment bs) t e = absurd (none-some t e)
+-- ---- keys
 
-pub key_passed : (text key rest : List ℕ) (t : Option Token) (n : ℕ) → rest ≡ drop n text → t ≡ Some (word key)
-    → is_bare_key key ≡ true → found t n ≡ outline 0 (first_of_text text) → BehindKey text key rest
-key_passed text key rest t n cut is bare h =
-    let f = is_found text t 0 n h in
+word_bytes : (k : List ℕ) → list_all continues_key k ≡ true → list_all is_word_byte k ≡ true
+word_bytes [] h = refl
+word_bytes (b ∷ bs) h =
+    let here = both_left (continues_key b) (list_all continues_key bs) h in
+    rw here (word_bytes bs (both_right (continues_key b) (list_all continues_key bs) h))
+
+key_begins : (text : List ℕ) → begins_with begins_key text ≡ true
+    → (begins_with begins_key (take_while continues_key text) ≡ true)
+    × (not (length (take_while continues_key text) == 0) ≡ true)
+key_begins [] h = absurd (grind (arith, rules))
+key_begins (b ∷ bs) h =
+    let first : begins_key b ≡ true = h in
+    let more = run_more continues_key b bs (rw first refl) in
+    (ap (begins_with begins_key) more ∙ h, ap (λ l. not (length l == 0)) more ∙ some_bytes_there _)
+
+-- the longest run of a key's bytes, where no byte of a word follows it
+pub record KeyRun (text : List ℕ) (n : ℕ) : Type 0 where
+  pub stands : Stands (token (word (take n text))) text
+  pub bare : is_bare_key (take n text) ≡ true
+  pub size : length (take n text) ≡ n
+
+pub key_run : (bytes text behind : List ℕ) (n : ℕ) → bytes ≡ text → begins_with begins_key bytes ≡ true
+    → n ≡ length (take_while continues_key bytes) → behind ≡ take (length bytes - n) (drop n bytes)
+    → begins_with is_word_byte behind ≡ false → KeyRun text n
+key_run bytes text behind n v first size there ends =
+    let key = take_while continues_key bytes in
+    let r = runs continues_key bytes in
+    let k = key_begins bytes first in
+    let cut : drop n bytes ≡ r.rest = ap (λ i. drop i bytes) size ∙ drop-appended key bytes r.rest r.bytes in
+    let taken : take n text ≡ key =
+    ap (take n) (sym v) ∙ ap (λ i. take i bytes) size ∙ ap (take (length key)) r.bytes
+    ∙ take-append-le (length key) key r.rest (omega arith) ∙ take_all (length key) key (omega arith) in
+    let closed : begins_with is_word_byte r.rest ≡ false =
+    ap (begins_with is_word_byte) (sym (there ∙ take_rest bytes n ∙ cut)) ∙ ends in
+    let stands : Stands (token (word key)) text = record {
+      rest = r.rest;
+      bytes = sym v ∙ r.bytes;
+      piece = rw (k.1, word_bytes key r.passes) refl;
+      follows = ap not closed;
+    } in
     record {
-      bare = bare;
-      splits = subst (λ p. SplitsInto text (p ∷ []) rest) (token_piece f.p (word key) (f.token ∙ is))
-          (splits_there f.p text rest n f.stands f.size cut);
+      stands = subst (λ l. Stands (token (word l)) text) (sym taken) stands;
+      bare = ap is_bare_key taken ∙ rw (k.0, r.passes) refl;
+      size = ap length taken ∙ sym size;
     }
+
+pub key_cut : (text : List ℕ) (n : ℕ) → IsUtf8 text → KeyRun text n → IsCharBoundary text n
+key_cut text n u r = subst (IsCharBoundary text) r.size (stands_cut (token (word (take n text))) text u r.stands)
+
+pub key_passed : (text key rest : List ℕ) (n : ℕ) → KeyRun text n → key ≡ take (n - 0) text → rest ≡ drop n text
+    → BehindKey text key rest
+key_passed text key rest n r is cut =
+    let none : n - 0 ≡ n = omega arith in
+    subst (λ k. BehindKey text k rest) (sym (is ∙ ap (λ i. take i text) none)) (record {
+      bare = r.bare;
+      splits = splits_there (token (word (take n text))) text rest n r.stands r.size cut;
+    })

@@ -154,7 +154,7 @@ block_stands bs p (Some cs) f h =
 line_stands : (bs : List ℕ) → Stands (line_comment (take_while is_in_line bs)) (47 ∷ 47 ∷ bs)
 line_stands bs = let r = runs is_in_line bs in record { rest = r.rest; bytes = ap (λ xs. 47 ∷ 47 ∷ xs) r.bytes; piece = r.passes; follows = ap not r.ends }
 
-some_bytes_there : (n : ℕ) → not (suc n == 0) ≡ true
+pub some_bytes_there : (n : ℕ) → not (suc n == 0) ≡ true
 some_bytes_there n = grind (arith, rules)
 
 word_stands : (b : ℕ) (bs : List ℕ) → is_word_byte b ≡ true → Stands (token (word (b ∷ take_while is_word_byte bs))) (b ∷ bs)

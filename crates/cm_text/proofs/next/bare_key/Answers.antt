@@ -1,18 +1,28 @@
-use Rattle.std.proofs.Common.{◌≡◌, true, Some, sym, ◌∙◌, rules}
-use Rattle.cm_text.specs.Json.{is_bare_key}
-use Rattle.cm_text.specs.Token.{word}
-use Rattle.cm_text.proofs.found.OutlineLemmas.{found_cut}
-use Rattle.cm_text.proofs.found.LoopLemmas.{some_token_of}
-use Rattle.cm_text.proofs.found.NextLemmas.{key_passed}
+use Rattle.std.proofs.Common.{◌≡◌, true, false, refl, sym, ◌∙◌, rules}
+use Rattle.cm_text.proofs.found.NextLemmas.{key_run, key_cut, key_passed}
 use Rattle.cm_text.proofs.next.bare_key.Goals as goal
+
+pub range-requires-clause-end_boundary : goal.range-requires-clause-end_boundary
+range-requires-clause-end_boundary c =
+    let first : c.first_begins_key.result ≡ true = search rules in
+    let ends : c.begins_word.result ≡ false = search rules in
+    key_cut c.args.text.now _ c.utf8.text
+    (key_run _ c.args.text.now _ _ c.as_bytes-bytes.ensures.value (sym c.first_begins_key.ensures ∙ first)
+    c.key_len-len.ensures refl (sym c.begins_word.ensures ∙ ends))
 
 pub range_from-requires : goal.range_from-requires
 range_from-requires c =
-    λ _. found_cut c.args.text.now (some_token_of c.in-Ok.piece.token) 0 c.in-Ok.piece.len c.utf8.text c.in-Ok.ensures
+    let first : c.first_begins_key.result ≡ true = search rules in
+    let ends : c.begins_word.result ≡ false = search rules in
+    λ _. key_cut c.args.text.now _ c.utf8.text
+    (key_run _ c.args.text.now _ _ c.as_bytes-bytes.ensures.value (sym c.first_begins_key.ensures ∙ first)
+    c.key_len-len.ensures refl (sym c.begins_word.ensures ∙ ends))
 
-pub returns-in-Some-Word-clause-key : goal.returns-in-Some-Word-clause-key
-returns-in-Some-Word-clause-key c =
-    let bare : is_bare_key c.in-Some-Word.word.now ≡ true = sym c.is_bare_key.ensures ∙ c.if-is_bare_key.true in
-    let same : some_token_of c.in-Ok.piece.token ≡ Some (word c.in-Some-Word.word.now) = search rules in
-    key_passed c.args.text.now c.in-Some-Word.word.now c.range_from.result.now (some_token_of c.in-Ok.piece.token)
-    c.in-Ok.piece.len c.range_from.ensures.value same bare c.in-Ok.ensures
+pub returns-clause-key : goal.returns-clause-key
+returns-clause-key c =
+    let first : c.first_begins_key.result ≡ true = search rules in
+    let ends : c.begins_word.result ≡ false = search rules in
+    key_passed c.args.text.now c.range.result.now c.range_from.result.now c.key_len-len.result
+    (key_run _ c.args.text.now _ _ c.as_bytes-bytes.ensures.value (sym c.first_begins_key.ensures ∙ first)
+    c.key_len-len.ensures refl (sym c.begins_word.ensures ∙ ends))
+    c.range.ensures.value c.range_from.ensures.value
