@@ -57,7 +57,6 @@ fn behind_mark(text: &str, sign: u8) -> Option<&str>
 }
 
 /// The string in these quotes that is next, if it has no escape, and what stands after it and the gap.
-#[inline(always)]
 fn read_quoted(text: &str, quote: u8) -> Option<(&str, &str)>
     requires { is_quote quote ≡ true }
     ensures string { IfSome result (λ read. HasString text.now read.0.now read.1.now) }
@@ -68,15 +67,30 @@ fn read_quoted(text: &str, quote: u8) -> Option<(&str, &str)>
     Some((string, behind_gap(rest)))
 }
 
+/// Whether the byte opens a string.
+fn is_quote(byte: u8) -> bool
+    ensures { result ≡ is_quote byte }
+{
+    matches!(byte, b'"' | b'\'')
+}
+
+/// The quote that is next.
+fn next_quote(text: &[u8]) -> Option<u8>
+    ensures { IfSome result (λ quote. is_quote quote ≡ true) }
+{
+    match text {
+        [first, ..] if is_quote(*first) => Some(*first),
+        _ => None,
+    }
+}
+
 /// The string that is next, if it has no escape, and what stands after it and the gap.
 fn read_string(text: &str) -> Option<(&str, &str)>
     ensures string { IfSome result (λ read. HasString text.now read.0.now read.1.now) }
     ensures shorter { IfSome result (λ read. length read.1.now < length text.now) }
 {
-    if is_next(text.as_bytes(), b'\'') {
-        return read_quoted(text, b'\'');
-    }
-    read_quoted(text, b'"')
+    let quote = next_quote(text.as_bytes())?;
+    read_quoted(text, quote)
 }
 
 /// The key that is next, and what stands after it and the gap.
