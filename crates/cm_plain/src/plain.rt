@@ -113,7 +113,9 @@ fn is_inside(quote: u8, byte: u8) -> bool
 fn inside_len(text: &[u8], quote: u8) -> usize
     ensures { result ≡ length (take_while (spec.is_inside quote) text.now) }
 {
-    text.iter().take_while(|byte| is_inside(quote, **byte)).count()
+    text.iter()
+        .take_while(|byte| is_inside(quote, **byte))
+        .count()
 }
 
 /// What stands before the quote that closes a string without escapes, and after it.

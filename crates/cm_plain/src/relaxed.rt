@@ -11,7 +11,7 @@ ghost use Rattle.cm_plain.specs.JsonTree.{view, items_view, members_view};
 ghost use Rattle.cm_plain.specs.Relaxed.{PassesTokens, HasString, HasKey, GivesValue, GivesItems};
 ghost use Rattle.cm_plain.specs.Relaxed.{GivesMembers, TakesItem, TakesMember, JsonReads};
 
-use crate::plain::{begins_space, behind_byte, is_next, split_string, MAX_DEPTH};
+use crate::plain::{MAX_DEPTH, begins_space, behind_byte, is_next, split_string};
 use crate::tree::JsonTree;
 use cm_text::{bare_key, behind_blank};
 use std::alloc::Global;

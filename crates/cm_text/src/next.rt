@@ -29,7 +29,10 @@ pub fn behind_blank(text: &str) -> Option<&str>
 fn key_len(bytes: &[u8]) -> usize
     ensures { result ≡ length (take_while spec.continues_key bytes.now) }
 {
-    bytes.iter().take_while(|byte| continues_key(**byte)).count()
+    bytes
+        .iter()
+        .take_while(|byte| continues_key(**byte))
+        .count()
 }
 
 /// Whether the first byte may stand in a word.
