@@ -1,8 +1,8 @@
 //! What the facts of an instance say, and of those above it.
 
-ghost use Rattle.std.specs.Prelude.{◌≡◌, not, false, Some, if◌then◌else◌, option_and_then};
+ghost use Rattle.std.specs.Prelude.{◌≡◌, not, false, Some, IsTrue, if◌then◌else◌, option_and_then};
 ghost use Rattle.std.specs.Option.{option_map_or};
-ghost use Rattle.cm_world.specs.Rows.{row_of, has_closing};
+ghost use Rattle.cm_world.specs.Rows.{row_of, has_closing, is_closing as closes_at};
 ghost use Rattle.cm_world.specs.Sound.{IsOrderly};
 ghost use Rattle.cm_world.specs.Stopping as spec;
 
@@ -15,6 +15,8 @@ struct Upward {
     at: Option<u64>,
     /// The last one so far that is being shut down itself.
     found: Option<u64>,
+    /// Whether the instance below this place is being shut down itself.
+    closes: bool,
 }
 
 /// One further up from the instance: to its parent, if it has one. The instance is found, if it itself
@@ -25,12 +27,28 @@ fn climb<V: View>(view: &V, inc: u64, found: Option<u64>) -> Upward
     ensures orderly { IsOrderly (V.rows view.now) (V.next_inc view.now) }
 {
     match view.facts(inc) {
-        None => Upward { at: None, found },
+        None => Upward {
+            at: None,
+            found,
+            closes: false,
+        },
         Some(facts) => Upward {
             at: facts.parent,
             found: if facts.closing { Some(inc) } else { found },
+            closes: facts.closing,
         },
     }
+}
+
+/// Whether neither an instance nor one above it is being shut down. Of one that is itself the marks aren't
+/// asked.
+fn stays_open<V: View>(view: &V, inc: u64, closes: bool) -> bool
+    ensures { IsTrue result → closes_at (V.rows view.now) inc ≡ false }
+{
+    if closes {
+        return false;
+    }
+    !view.closing_above(inc)
 }
 
 /// Among the instance and those above it the one nearest the root that is being shut down itself,
@@ -41,11 +59,11 @@ pub(crate) fn outermost<V: View>(view: &V, inc: u64) -> Option<u64>
     let mut found = None;
     let mut at = Some(inc);
     'up: while let Some(here) = at {
-        let closing = view.closing_above(here);
-        if !closing {
+        let further = climb(view, here, found);
+        let none_closes = stays_open(view, here, further.closes);
+        if none_closes {
             return found;
         }
-        let further = climb(view, here, found);
         found = further.found;
         at = further.at;
     }

@@ -56,6 +56,9 @@ pub fn all_shut<V: View>(alloc: Global, view: &V, top: u64) -> Result<bool, Memo
     if is_unshut(view, top) {
         return Ok(false);
     }
+    if view.next_child(top, None).is_none() {
+        return Ok(true);
+    }
     let mut left = Vec::new(alloc);
     left.push(Spot {
         inc: top,

@@ -5,7 +5,7 @@ ghost use Rattle.std.specs.List.{list_any};
 ghost use Rattle.std.specs.Option.{option_map_or};
 ghost use Rattle.cm_decl.specs.Graph.{is_strong, is_from_child};
 ghost use Rattle.cm_world.specs.declared.row.Row.{Row};
-ghost use Rattle.cm_world.specs.Rows.{decl_of};
+ghost use Rattle.cm_world.specs.Rows.{decl_of, is_subtree_shut};
 ghost use Rattle.cm_world.specs.Sound.{IsSound};
 ghost use Rattle.cm_order.specs.Kids.{IsKid};
 ghost use Rattle.cm_order.specs.Glances.{is_in_list, is_in_set, IsFreeKid, IsCleared, KnowsDependents};
@@ -31,10 +31,11 @@ pub(crate) fn is_open<V: View>(
 ) -> Result<bool, Memory>
     requires sound { IsSound (V.rows view.now) (V.next_inc view.now) }
     requires known { KnowsDependents (V.rows view.now) parent known.old }
+    requires kid { IsKid (V.rows view.now) parent child }
     ensures left { IfOk result (λ yet. IsTrue yet → IsFreeKid (V.rows view.now) parent child) }
     ensures known { OnOk result (KnowsDependents (V.rows view.now) parent known.new) }
 {
-    if !is_free_child(view, known, parent, child) {
+    if !known.is_free(child) {
         return Ok(false);
     }
     if is_left(alloc, view, child)? {
@@ -185,7 +186,7 @@ fn settle<V: View>(
     requires free { IsFreeKid (V.rows view.now) parent child }
     ensures { OnOk result (KnowsDependents (V.rows view.now) parent known.new) }
 {
-    if !known.edges.sources.contains_key(&child) {
+    if !known.waits(child) {
         return Ok(());
     }
     if !all_shut(alloc, view, child)? {
@@ -195,26 +196,49 @@ fn settle<V: View>(
     Ok(())
 }
 
+/// Puts down that a child that was found to be free is shut with all below it: it isn't told again, and it is
+/// cleared, if it is in the list of another.
+pub(crate) fn leave<V: View>(
+    view: &V,
+    known: &mut Dependents,
+    parent: u64,
+    child: u64,
+) -> Result<(), Memory>
+    requires sound { IsSound (V.rows view.now) (V.next_inc view.now) }
+    requires known { KnowsDependents (V.rows view.now) parent known.old }
+    requires shut { IsTrue (is_subtree_shut (V.rows view.now) child) }
+    ensures { OnOk result (KnowsDependents (V.rows view.now) parent known.new) }
+{
+    known.leave(child);
+    if !known.waits(child) {
+        return Ok(());
+    }
+    if !is_free_child(view, known, parent, child) {
+        return Ok(());
+    }
+    clear(known, child)
+}
+
 /// Puts down that a node is cleared, and finds the children that become free by that.
 fn clear(known: &mut Dependents, node: u64) -> Result<(), Memory>
     ensures { OnOk result ((rows : Seq Row) (p : ℕ) → KnowsDependents rows p known.old →
         IsCleared rows p node → KnowsDependents rows p known.new) }
 {
     known.cleared.insert(node)?;
-    let Some(sources) = known.edges.sources.remove(&node) else {
-        return Ok(());
-    };
-    release_all(known, sources.as_slice())?;
+    release_all(known, node)?;
     Ok(())
 }
 
-/// Leaves what is cleared out of the lists of these children.
-fn release_all(known: &mut Dependents, children: &[u64]) -> Result<(), Memory>
+/// Leaves what is cleared out of the lists of the children in which this node was put.
+fn release_all(known: &mut Dependents, node: u64) -> Result<(), Memory>
     ensures { OnOk result ((rows : Seq Row) (p : ℕ) → KnowsDependents rows p known.old →
         KnowsDependents rows p known.new) }
 {
-    for child in children {
-        release(known, *child)?;
+    for place in known.first_edge(node)..usize::MAX {
+        let Some(child) = known.source_at(place, node) else {
+            return Ok(());
+        };
+        release(known, child)?;
     }
     Ok(())
 }

@@ -28,8 +28,17 @@ pub(crate) struct LevelEdges {
     /// For each child the nodes that strongly depend on it, but for some that are cleared. A child
     /// without a list, or with an empty one, is free.
     pub clients: BTreeMap<u64, List<u64>>,
-    /// For each node that isn't cleared the children in whose lists it was put.
-    pub sources: BTreeMap<u64, List<u64>>,
+    /// The same by who depends, in the order in which the nodes were looked at.
+    pub sources: Vec<Edge>,
+}
+
+/// A node, and a child in whose list it was put.
+#[derive(Debug, Clone, Copy)]
+pub(crate) struct Edge {
+    /// Which node depends.
+    pub client: u64,
+    /// On which child.
+    pub source: u64,
 }
 
 /// What is known of a level: what depends on each child there, as far as it isn't cleared. A node is
@@ -54,7 +63,7 @@ impl Dependents {
     {
         let mut edges = LevelEdges {
             clients: BTreeMap::new(alloc),
-            sources: BTreeMap::new(alloc),
+            sources: Vec::new(alloc),
         };
         put_level(alloc, view, parent, &mut edges)?;
         Ok(Dependents {
@@ -78,6 +87,47 @@ impl Dependents {
     /// The last node in the list of a child, if there is one.
     pub(crate) fn last_client(&self, child: u64) -> Option<u64> {
         self.edges.clients.get(&child)?.as_slice().last().copied()
+    }
+
+    /// Where the edges of a node begin among those by who depends. A node's stand together, and nodes were
+    /// looked at by increasing incarnations. No clause says so: who reads there tests whose edge it is.
+    pub(crate) fn first_edge(&self, node: u64) -> usize {
+        self.edges.sources.partition_point(|edge| edge.client < node)
+    }
+
+    /// The child in whose list a node was put by the edge at a place, if it is an edge of that node.
+    pub(crate) fn source_at(&self, place: usize, node: u64) -> Option<u64> {
+        let edge = self.edges.sources.get(place)?;
+        if edge.client == node {
+            return Some(edge.source);
+        }
+        None
+    }
+
+    /// Whether a node was put into the list of a child, and isn't known to be cleared; no clause says so.
+    pub(crate) fn waits(&self, node: u64) -> bool {
+        if self.source_at(self.first_edge(node), node).is_none() {
+            return false;
+        }
+        !self.cleared.contains(&node)
+    }
+
+    /// Takes a child out of those that were found to be free, if it is the last of them.
+    pub(crate) fn leave(&mut self, child: u64)
+        ensures edges { self.new.edges ≡ self.old.edges }
+        ensures cleared { self.new.cleared ≡ self.old.cleared }
+    {
+        if self.is_last(child) {
+            self.open.pop_back();
+        }
+    }
+
+    /// Whether a child is the last of those that were found to be free.
+    fn is_last(&self, child: u64) -> bool {
+        match self.open.back() {
+            None => false,
+            Some(last) => *last == child,
+        }
     }
 }
 
@@ -340,7 +390,7 @@ fn put_client(alloc: Global, client: u64, source: u64, edges: &mut LevelEdges) -
     ensures kept { OnOk result (ClientsGrow edges.old.clients edges.new.clients) }
 {
     put_in(alloc, source, client, &mut edges.clients)?;
-    put_in(alloc, client, source, &mut edges.sources)?;
+    edges.sources.push(Edge { client, source })?;
     Ok(())
 }
 

@@ -9,13 +9,14 @@ ghost use Rattle.std.specs.Option.{option_map_or};
 ghost use Rattle.cm_world.specs.Rows.{row_of};
 ghost use Rattle.cm_world.specs.RowsInside.{child_behind};
 ghost use Rattle.cm_world.specs.Sound.{IsSound};
-ghost use Rattle.cm_order.specs.Glances.{KnowsDependents, IsChosen, AreKidsShut, HasKidLeft, IsGlance};
+ghost use Rattle.cm_order.specs.Glances.{KnowsDependents, IsChosen, IsFreeKid, AreKidsShut};
+ghost use Rattle.cm_order.specs.Glances.{HasKidLeft, IsGlance};
 ghost use Rattle.cm_order.specs.Plans.{IsKnownLevel, AreKnown, AreShutSoFar};
 ghost use Rattle.cm_order.specs.Search.{IsHere};
 ghost use Rattle.cm_order.specs.declared.search.SearchGoal.TheVariants as wanted;
 
 use crate::below::all_shut;
-use crate::clearing::is_open;
+use crate::clearing::{is_child, is_open};
 use crate::dependents::Dependents;
 use crate::search::VisitResult;
 use crate::stand::Stand;
@@ -100,7 +101,31 @@ fn free_child<V: View>(
     ensures chosen { IfOk result (IsChosen (V.rows view.now) parent) }
     ensures levels { AreKnown (V.rows view.now) levels.new }
 {
-    let mut known = take_level(alloc, view, levels, parent)?;
+    match levels.get_mut(&parent) {
+        None => first_free(alloc, view, levels, parent),
+        Some(known) => match next_free(alloc, view, known, parent) {
+            Ok(found) => Ok(found),
+            Err(fault) => {
+                levels.remove(&parent);
+                Err(fault)
+            }
+        },
+    }
+}
+
+/// The same, of a level of which nothing is kept.
+fn first_free<V: View>(
+    alloc: Global,
+    view: &V,
+    levels: &mut BTreeMap<u64, Dependents>,
+    parent: u64,
+) -> Result<Option<u64>, Memory>
+    requires sound { IsSound (V.rows view.now) (V.next_inc view.now) }
+    requires levels { AreKnown (V.rows view.now) levels.old }
+    ensures chosen { IfOk result (IsChosen (V.rows view.now) parent) }
+    ensures levels { AreKnown (V.rows view.now) levels.new }
+{
+    let mut known = Dependents::of(alloc, view, parent)?;
     let found = next_free(alloc, view, &mut known, parent)?;
     levels.insert(parent, known)?;
     Ok(found)
@@ -185,12 +210,31 @@ fn open_child<V: View>(
         let Some(child) = known.open.pop_front() else {
             return Ok(None);
         };
-        if is_open(alloc, view, known, parent, child)? {
+        if is_open_child(alloc, view, known, parent, child)? {
             known.open.push_back(child)?;
             return Ok(Some(child));
         }
     }
     Ok(None)
+}
+
+/// Whether an instance is a child of the other that is open.
+fn is_open_child<V: View>(
+    alloc: Global,
+    view: &V,
+    known: &mut Dependents,
+    parent: u64,
+    child: u64,
+) -> Result<bool, Memory>
+    requires sound { IsSound (V.rows view.now) (V.next_inc view.now) }
+    requires known { KnowsDependents (V.rows view.now) parent known.old }
+    ensures left { IfOk result (λ yet. IsTrue yet → IsFreeKid (V.rows view.now) parent child) }
+    ensures known { OnOk result (KnowsDependents (V.rows view.now) parent known.new) }
+{
+    if !is_child(view, parent, child) {
+        return Ok(false);
+    }
+    is_open(alloc, view, known, parent, child)
 }
 
 /// Whether an instance isn't shut and has no pending action, and all below it is shut. What that looks

@@ -2,7 +2,8 @@
 //!
 //! It goes on where the way of the last pick ends, once what is shut there is left behind.
 
-ghost use Rattle.std.specs.Prelude.{◌≡◌, Some, IsTrue, IfOk, IfSome};
+ghost use Rattle.std.specs.Prelude.{◌≡◌, List as Seq, Some, IsTrue, IfOk, IfSome};
+ghost use Rattle.cm_world.specs.declared.row.Row.{Row};
 ghost use Rattle.cm_world.specs.Rows.{is_subtree_shut};
 ghost use Rattle.cm_world.specs.Sound.{IsSound};
 ghost use Rattle.cm_world.specs.Stopping as spec;
@@ -10,6 +11,7 @@ ghost use Rattle.cm_order.specs.Glances.{IsQuick, IsGlance};
 ghost use Rattle.cm_order.specs.Plans.{IsPlan, IsFreeOnTheWay, IsKnownLevel, IsDescent, AreKnown};
 
 use crate::above::is_unshut;
+use crate::clearing::leave;
 use crate::dependents::Dependents;
 use crate::glance::glance;
 use crate::plan::DescentPlan;
@@ -169,12 +171,50 @@ fn go_back<V: View>(
         if is_unshut(view, inc) {
             count_done(view, &mut stand, closed);
             way.push(stand)?;
+            leave_level(view, levels, inc, closed)?;
             return Ok(Some(inc));
         }
-        levels.remove(&inc);
+        forget_level(levels, &stand);
         closed = left_shut(&stand);
     }
     Ok(None)
+}
+
+/// Puts down in what is kept of a level that a child there is shut with all below it.
+fn leave_level<V: View>(
+    view: &V,
+    levels: &mut BTreeMap<u64, Dependents>,
+    parent: u64,
+    closed: Option<u64>,
+) -> Result<(), Memory>
+    requires sound { IsSound (V.rows view.now) (V.next_inc view.now) }
+    requires levels { AreKnown (V.rows view.now) levels.old }
+    requires closed { IfSome closed (λ c. IsTrue (is_subtree_shut (V.rows view.now) c)) }
+    ensures { AreKnown (V.rows view.now) levels.new }
+{
+    let Some(child) = closed else {
+        return Ok(());
+    };
+    match levels.get_mut(&parent) {
+        None => Ok(()),
+        Some(known) => match leave(view, known, parent, child) {
+            Ok(()) => Ok(()),
+            Err(fault) => {
+                levels.remove(&parent);
+                Err(fault)
+            }
+        },
+    }
+}
+
+/// Forgets what is kept of a level that is left. Of an instance without children nothing is.
+fn forget_level(levels: &mut BTreeMap<u64, Dependents>, stand: &Stand)
+    ensures { (rows : Seq Row) → AreKnown rows levels.old → AreKnown rows levels.new }
+{
+    if stand.below_shut && stand.done.is_none() {
+        return;
+    }
+    levels.remove(&stand.inc);
 }
 
 /// The instance, if all below it is known to be shut.

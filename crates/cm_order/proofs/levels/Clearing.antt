@@ -13,7 +13,7 @@ use Rattle.cm_order.specs.declared.dependents.Dependents.{Dependents}
 use Rattle.cm_order.specs.Kids.{IsKid}
 use Rattle.cm_order.specs.Glances.{is_in_list, is_in_set, IsCleared, KnowsDependents}
 use Rattle.cm_order.specs.Plans.{AreKnown}
-use Rattle.cm_order.proofs.levels.Lists.{same_number, lists_left}
+use Rattle.cm_order.proofs.levels.Lists.{same_number, cond_on, lists_left}
 
 -- ---- a child
 
@@ -60,6 +60,16 @@ known_left rows p child a b o is same changed more = record {
   cleared = λ z there. is.cleared z (subst (λ s. IsTrue (is_in_set s z)) same there);
 }
 
+-- where the edges and what is cleared are as they were
+pub known_same : (rows : List Row) (p : ℕ) (a b : Dependents) → b.edges ≡ a.edges → b.cleared ≡ a.cleared → KnowsDependents rows p a → KnowsDependents rows p b
+known_same rows p a b edges cleared is = record {
+  clients = λ z x other strong. elim (is.clients z x other strong) [
+    | inl there ↦ inl (subst (λ e. IsTrue (is_in_list (unwrap_or (get nat_cmp e.clients x) []) z)) (sym edges) there)
+    | inr out ↦ inr (subst (λ s. IsTrue (is_in_set s z)) (sym cleared) out)
+  ];
+  cleared = λ z there. is.cleared z (subst (λ s. IsTrue (is_in_set s z)) cleared there);
+}
+
 -- ---- what is kept of levels
 
 some_by : (P : Dependents → Type 0) (b : Bool) (o p : Option Dependents) → (IsTrue b → IfSome o P) → IfSome p P → IfSome (cond b o p) P
@@ -71,6 +81,11 @@ pub levels_changed : (rows : List Row) (key : ℕ) (o : Option Dependents) (old 
 levels_changed rows key o old new changed here are p =
     subst (λ m. IfSome m (KnowsDependents rows p)) (sym (changed p))
     (some_by (KnowsDependents rows p) (is_at (nat_cmp key) p) o (get nat_cmp old p) (λ same. subst (λ k. IfSome o (KnowsDependents rows k)) (same_number key p same) here) (are p))
+
+-- one that was changed in place is taken out
+pub level_dropped : (rows : List Row) (key : ℕ) (w : Dependents) (old mid new : BTreeMap ℕ Dependents) → ((q : ℕ) → get nat_cmp mid q ≡ cond (is_at (nat_cmp key) q) (Some w) (get nat_cmp old q)) → ((q : ℕ) → get nat_cmp new q ≡ cond (is_at (nat_cmp key) q) None (get nat_cmp mid q)) → AreKnown rows old → AreKnown rows new
+level_dropped rows key w old mid new put taken are =
+    levels_changed rows key None old new (λ q. subst (λ o. get nat_cmp new q ≡ cond (is_at (nat_cmp key) q) None o) (put q) (taken q) ∙ cond_on (is_at (nat_cmp key) q) None (Some w) (get nat_cmp old q)) tt are
 
 -- where nothing was put in, all is as it was
 pub levels_same : (rows : List Row) (old new : BTreeMap ℕ Dependents) → new.entries ≡ old.entries → AreKnown rows old → AreKnown rows new

@@ -53,7 +53,7 @@ same_name k q at = (bytes_decides k q).0 (sym (is_eq-slice_cmp k q) ∙ at)
 
 -- ---- a map
 
-cond_on : {A : Type 0} (b : Bool) (x y z : A) → cond b x (cond b y z) ≡ cond b x z
+pub cond_on : {A : Type 0} (b : Bool) (x y z : A) → cond b x (cond b y z) ≡ cond b x z
 cond_on true x y z = refl
 cond_on false x y z = refl
 

@@ -11,6 +11,6 @@ pub up-preserved : goal.up-preserved
 up-preserved g c =
     goes_up (g.V.View.rows c.args.view.now) (g.V.View.next_inc c.args.view.now) c.climb-further.ensures.orderly _ c.in-Some.here c.up.at c.climb-further.result.at c.up.found c.climb-further.result.found c.in-Some.is c.climb-further.ensures.parent c.climb-further.ensures.closing c.up.invariant
 
-pub returns-then-not-closing : goal.returns-then-not-closing
-returns-then-not-closing g c =
-    goes_no_further (g.V.View.rows c.args.view.now) _ c.in-Some.here c.up.at c.up.found c.in-Some.is (sym c.closing_above-closing.ensures ∙ c.if-not-closing.true) c.up.invariant
+pub returns-then-none_closes : goal.returns-then-none_closes
+returns-then-none_closes g c =
+    goes_no_further (g.V.View.rows c.args.view.now) _ c.in-Some.here c.up.at c.up.found c.in-Some.is (c.stays_open-none_closes.ensures c.if-none_closes.true) c.up.invariant

@@ -1,5 +1,7 @@
-use Rattle.std.proofs.Common.{sym, ◌∙◌, subst}
-use Rattle.cm_order.proofs.levels.Kids.{next_kid}
+use Rattle.std.proofs.Common.{rules, ◌≡◌, None, refl, sym, ◌∙◌, subst}
+use Rattle.cm_world.specs.RowsInside.{child_behind}
+use Rattle.cm_order.proofs.levels.Kids.{next_kid, no_kids}
+use Rattle.cm_order.proofs.levels.Glancing.{shut_below}
 use Rattle.cm_order.proofs.searches.Turns.{IsLooking, alone, under, own_open, looking_first, looking_on, looking_found}
 use Rattle.cm_order.proofs.searches.Weights.{falls}
 use Rattle.cm_order.proofs.below.all_shut.Goals as goal
@@ -7,6 +9,12 @@ use Rattle.cm_order.proofs.below.all_shut.Goals as goal
 pub returns-then-is_unshut : goal.returns-then-is_unshut
 returns-then-is_unshut g c =
     sym (own_open (g.V.View.rows c.args.view.now) (g.V.View.next_inc c.args.view.now) c.is_unshut.ensures.orderly c.args.top (sym c.is_unshut.ensures.unshut ∙ c.if-is_unshut.true))
+
+pub returns-then-is_none : goal.returns-then-is_none
+returns-then-is_none g c =
+    let none : child_behind (g.V.View.rows c.args.view.now) c.args.top None ≡ None = search rules in
+    sym (shut_below (g.V.View.rows c.args.view.now) (g.V.View.next_inc c.args.view.now) c.is_unshut.ensures.orderly c.args.top (sym c.is_unshut.ensures.unshut ∙ c.if-is_unshut.false)
+    (λ i kid. absurd (no_kids (g.V.View.rows c.args.view.now) c.args.top None i none kid refl)))
 
 pub loop-spot-init : goal.loop-spot-init
 loop-spot-init g c =

@@ -2,8 +2,5 @@ use Rattle.std.proofs.Common.{refl}
 use Rattle.cm_order.proofs.levels.Clearing.{known_more}
 use Rattle.cm_order.proofs.clearing.clear.Goals as goal
 
-pub returns-in_default : goal.returns-in_default
-returns-in_default c = λ rows p is cleared. known_more rows p c.args.node c.args.known.now _ is cleared refl c.in_ok-insert.ensures.updates.0
-
 pub returns : goal.returns
 returns c = λ rows p is cleared. c.in_ok-release_all.ensures rows p (known_more rows p c.args.node c.args.known.now _ is cleared refl c.in_ok-insert.ensures.updates.0)

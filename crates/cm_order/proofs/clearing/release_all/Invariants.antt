@@ -3,5 +3,5 @@ use Rattle.cm_world.specs.declared.row.Row.{Row}
 use Rattle.cm_order.specs.Glances.{KnowsDependents}
 use Rattle.cm_order.proofs.clearing.release_all.Given as goal
 
-abbrev pub invariant-loop-child : goal.invariant-loop-child
-invariant-loop-child l = (rows : List Row) (p : ℕ) → KnowsDependents rows p l.initial.known → KnowsDependents rows p l.known
+abbrev pub invariant-loop-place : goal.invariant-loop-place
+invariant-loop-place l = (rows : List Row) (p : ℕ) → KnowsDependents rows p l.initial.known → KnowsDependents rows p l.known
