@@ -197,7 +197,8 @@ fn settle<V: View>(
 }
 
 /// Puts down that a child that was found to be free is shut with all below it: it isn't told again, and it is
-/// cleared, if it is in the list of another.
+/// cleared, if it is in the list of another. While children weren't looked at yet, such a one stays for
+/// `glance.rt`, so that those are told before the ones that it frees.
 pub(crate) fn leave<V: View>(
     view: &V,
     known: &mut Dependents,
@@ -209,13 +210,17 @@ pub(crate) fn leave<V: View>(
     requires shut { IsTrue (is_subtree_shut (V.rows view.now) child) }
     ensures { OnOk result (KnowsDependents (V.rows view.now) parent known.new) }
 {
-    known.leave(child);
     if !known.waits(child) {
+        known.leave(child);
+        return Ok(());
+    }
+    if view.next_child(parent, known.passed).is_some() {
         return Ok(());
     }
     if !is_free_child(view, known, parent, child) {
         return Ok(());
     }
+    known.leave(child);
     clear(known, child)
 }
 

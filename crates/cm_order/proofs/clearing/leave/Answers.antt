@@ -5,22 +5,14 @@ use Rattle.cm_order.proofs.levels.Gathering.{kid_shut}
 use Rattle.cm_order.proofs.levels.Clearing.{known_same}
 use Rattle.cm_order.proofs.clearing.leave.Goals as goal
 
-pub is_free_child-requires-clause-known : goal.is_free_child-requires-clause-known
-is_free_child-requires-clause-known g c =
-    known_same (g.V.View.rows c.args.view.now) c.args.parent c.args.known.now c.leave.new.self c.leave.ensures.edges c.leave.ensures.cleared c.requires.known
-
 pub returns-then-not-waits : goal.returns-then-not-waits
 returns-then-not-waits g c =
-    known_same (g.V.View.rows c.args.view.now) c.args.parent c.args.known.now c.leave.new.self c.leave.ensures.edges c.leave.ensures.cleared c.requires.known
-
-pub returns-then-not-is_free_child : goal.returns-then-not-is_free_child
-returns-then-not-is_free_child g c =
     known_same (g.V.View.rows c.args.view.now) c.args.parent c.args.known.now c.leave.new.self c.leave.ensures.edges c.leave.ensures.cleared c.requires.known
 
 pub returns : goal.returns
 returns g c =
     let rows = g.V.View.rows c.args.view.now in
-    let known : KnowsDependents rows c.args.parent c.leave.new.self = known_same rows c.args.parent c.args.known.now c.leave.new.self c.leave.ensures.edges c.leave.ensures.cleared c.requires.known in
+    let known : KnowsDependents rows c.args.parent c.leave-2.new.self = known_same rows c.args.parent c.args.known.now c.leave-2.new.self c.leave-2.ensures.edges c.leave-2.ensures.cleared c.requires.known in
     let free : IsFreeKid rows c.args.parent c.args.child = c.is_free_child.ensures c.if-not-is_free_child.false in
     let cleared : IsCleared rows c.args.parent c.args.child = record {
       free = free.free;
