@@ -16,6 +16,6 @@ impl<S: Storied> Held<S> {
             (with_state self.old)) }
         ensures value { result.now ≡ self.old.state }
     {
-        &mut self.state
+        self.state.state.as_mut()
     }
 }

@@ -15,6 +15,7 @@
 //! The callers are served in the order in which they ask. That a call returns at all is not claimed.
 #![tactic(auto)]
 
+mod boxed;
 pub mod laws;
 mod lends;
 pub mod pass;

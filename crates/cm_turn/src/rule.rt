@@ -2,6 +2,7 @@
 //! one thread's place at the table; the maker is the seat that makes the passes.
 ghost use Rattle.std.specs.Prelude.{ℕ};
 
+use crate::boxed::BoxedState;
 use crate::storied::Storied;
 use crate::view::SeatView;
 use atomic_table::{Join, Play, Split, TableRule};
@@ -9,7 +10,7 @@ use atomic_table::{Join, Play, Split, TableRule};
 /// The rule. The key has the first state, whose frame is the lock's, and the number of passes.
 pub struct InTurns;
 
-impl<S: Storied> TableRule<Option<S>, SeatView<S::Entry, S::Frame>, (S, u32)> for InTurns {
+impl<S: Storied> TableRule<Option<BoxedState<S>>, SeatView<S::Entry, S::Frame>, (BoxedState<S>, u32)> for InTurns {
     ghost use Rattle.cm_turn.specs.Views.{maker};
     ghost use Rattle.cm_turn.specs.Rule.{KeepsRule};
 
@@ -21,7 +22,7 @@ impl<S: Storied> TableRule<Option<S>, SeatView<S::Entry, S::Frame>, (S, u32)> fo
 /// A ticket is drawn.
 pub struct Draw;
 
-impl<S: Storied> Play<Option<S>, SeatView<S::Entry, S::Frame>> for Draw {
+impl<S: Storied> Play<Option<BoxedState<S>>, SeatView<S::Entry, S::Frame>> for Draw {
     ghost use Rattle.cm_turn.specs.Plays.{Draws};
 
     ghost then = { Draws };
@@ -30,7 +31,7 @@ impl<S: Storied> Play<Option<S>, SeatView<S::Entry, S::Frame>> for Draw {
 /// A look at the ticket that is served. Where it is the seat's own, the seat has the turn and the slot.
 pub struct PollTicket;
 
-impl<S: Storied> Play<Option<S>, SeatView<S::Entry, S::Frame>> for PollTicket {
+impl<S: Storied> Play<Option<BoxedState<S>>, SeatView<S::Entry, S::Frame>> for PollTicket {
     ghost use Rattle.cm_turn.specs.Plays.{Looks};
 
     ghost then = { Looks S.story S.frame S.by };
@@ -39,7 +40,7 @@ impl<S: Storied> Play<Option<S>, SeatView<S::Entry, S::Frame>> for PollTicket {
 /// The maker, which has the turn from the beginning, takes the empty slot.
 pub struct TakeEmpty;
 
-impl<S: Storied> Play<Option<S>, SeatView<S::Entry, S::Frame>> for TakeEmpty {
+impl<S: Storied> Play<Option<BoxedState<S>>, SeatView<S::Entry, S::Frame>> for TakeEmpty {
     ghost use Rattle.cm_turn.specs.Plays.{TakesEmpty};
 
     ghost then = { TakesEmpty };
@@ -48,7 +49,7 @@ impl<S: Storied> Play<Option<S>, SeatView<S::Entry, S::Frame>> for TakeEmpty {
 /// The entries of the turn join the history.
 pub struct Record;
 
-impl<S: Storied> Play<Option<S>, SeatView<S::Entry, S::Frame>> for Record {
+impl<S: Storied> Play<Option<BoxedState<S>>, SeatView<S::Entry, S::Frame>> for Record {
     ghost use Rattle.cm_turn.specs.Plays.{RecordsState};
 
     ghost then = { RecordsState S.story S.frame S.by };
@@ -57,7 +58,7 @@ impl<S: Storied> Play<Option<S>, SeatView<S::Entry, S::Frame>> for Record {
 /// The slot goes home and the next ticket is served.
 pub struct PassOn;
 
-impl<S: Storied> Play<Option<S>, SeatView<S::Entry, S::Frame>> for PassOn {
+impl<S: Storied> Play<Option<BoxedState<S>>, SeatView<S::Entry, S::Frame>> for PassOn {
     ghost use Rattle.cm_turn.specs.Plays.{PassesOn};
 
     ghost then = { PassesOn };
@@ -66,7 +67,7 @@ impl<S: Storied> Play<Option<S>, SeatView<S::Entry, S::Frame>> for PassOn {
 /// What another seat has told is looked up.
 pub struct Learn;
 
-impl<S: Storied> Play<Option<S>, SeatView<S::Entry, S::Frame>> for Learn {
+impl<S: Storied> Play<Option<BoxedState<S>>, SeatView<S::Entry, S::Frame>> for Learn {
     ghost use Rattle.cm_turn.specs.Plays.{Learns};
 
     ghost then = { Learns S.story S.frame S.by };
@@ -75,7 +76,7 @@ impl<S: Storied> Play<Option<S>, SeatView<S::Entry, S::Frame>> for Learn {
 /// A new seat comes, which knows nothing.
 pub struct Arrive;
 
-impl<S: Storied> Play<Option<S>, SeatView<S::Entry, S::Frame>> for Arrive {
+impl<S: Storied> Play<Option<BoxedState<S>>, SeatView<S::Entry, S::Frame>> for Arrive {
     ghost use Rattle.cm_turn.specs.Plays.{Arrives};
 
     ghost then = { Arrives };

@@ -10,6 +10,7 @@ ghost use Rattle.cm_turn.specs.Views.{with_told, with_pass};
 ghost use Rattle.cm_turn.specs.Plays.{FindsState};
 ghost use Rattle.cm_turn.specs.Passes.{IsLockTable};
 
+use crate::boxed::BoxedState;
 use crate::rule::{
     Arrive, Draw, Gather, InTurns, Learn, Make, Note, PassOn, PollTicket, Record, TakeEmpty,
 };
@@ -22,15 +23,15 @@ use std::sync::Wait;
 
 /// The lock's table: two words and one slot.
 pub(crate) type LockTable<S> = Shared<
-    Option<S>,
+    Option<BoxedState<S>>,
     SeatView<<S as Storied>::Entry, <S as Storied>::Frame>,
-    (S, u32),
+    (BoxedState<S>, u32),
     InTurns,
 >;
 
 /// A seat at the lock's table.
 pub(crate) type LockSeat<S> = Seat<
-    Option<S>,
+    Option<BoxedState<S>>,
     SeatView<<S as Storied>::Entry, <S as Storied>::Frame>,
 >;
 

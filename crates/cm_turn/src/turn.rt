@@ -7,6 +7,7 @@ ghost use Rattle.cm_turn.specs.Passes.{LockView, HeldView, pass_of, IsHolding, A
 ghost use Rattle.cm_turn.specs.Passes.{seen_up_to, BearsPassOut, IsLockTable, HasCaller, known_as, IsOwn};
 ghost use Rattle.cm_turn.specs.Passes.{Enters, LeavesTurn};
 
+use crate::boxed::BoxedState;
 use crate::pass::Pass;
 use crate::rule::InTurns;
 use crate::steps::{
@@ -29,7 +30,13 @@ use std::sync::Wait;
 /// Where it is dropped and not closed, the state is dropped with it.
 #[derive(Drop)]
 pub struct Turn<S: Storied> {
-    table: Table<Option<S>, SeatView<S::Entry, S::Frame>, (S, u32), InTurns, Global>,
+    table: Table<
+        Option<BoxedState<S>>,
+        SeatView<S::Entry, S::Frame>,
+        (BoxedState<S>, u32),
+        InTurns,
+        Global,
+    >,
     wakeups: Wakeups,
     passes: u32,
 }
@@ -48,8 +55,8 @@ impl<S: Storied> Model for Turn<S> {
 /// Contracts see the `state`, and the `pass` that entered, whose `seen` is the whole history that
 /// was found. It can't be dropped, so no turn is forgotten.
 pub struct Held<S: Storied> {
-    pub(crate) state: S,
-    seat: Seat<Option<S>, SeatView<S::Entry, S::Frame>>,
+    pub(crate) state: BoxedState<S>,
+    seat: Seat<Option<BoxedState<S>>, SeatView<S::Entry, S::Frame>>,
     number: u32,
 }
 
@@ -85,13 +92,20 @@ impl<S: Storied> Turn<S> {
             list.destroy_empty();
             return Err(state);
         };
+        let state = match BoxedState::new(alloc, state) {
+            Ok(state) => state,
+            Err(state) => {
+                list.destroy_empty();
+                return Err(state);
+            }
+        };
         // The table's key keeps a ghost copy of the first state, from which the rule knows the frame.
         let about = (state, passes);
         let made = Table::vacant(alloc, &[1, 0], 1, &about);
         let (state, _) = about;
         let Ok((table, mut seat)) = made else {
             list.destroy_empty();
-            return Err(state);
+            return Err(state.into_state());
         };
         put_home(&table.shared, &wakeups, &mut seat, state);
         let list = make_passes(&table.shared, seat, passes, list);
@@ -202,7 +216,7 @@ impl<S: Storied> Turn<S> {
         let slot = closed.take(0);
         closed.free();
         let Some(state) = slot else { unreachable!() };
-        state
+        state.into_state()
     }
 }
 
@@ -253,7 +267,12 @@ fn gather_passes<S: Storied>(
 }
 
 /// The maker puts the state home and passes the turn on.
-fn put_home<S: Storied>(table: &LockTable<S>, wakeups: &Wakeups, seat: &mut LockSeat<S>, state: S)
+fn put_home<S: Storied>(
+    table: &LockTable<S>,
+    wakeups: &Wakeups,
+    seat: &mut LockSeat<S>,
+    state: BoxedState<S>,
+)
     requires lock { IsLockTable table.now.table_id × (seat.old.table_id ≡ table.now.table_id) }
     requires maker { seat.old.me ≡ (maker (S.frame state) table.now.key.1, []) }
     requires empty { S.story state ≡ [] }
