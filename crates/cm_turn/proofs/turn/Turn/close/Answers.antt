@@ -19,7 +19,8 @@ returns-clause-known g c =
     let w = closes g.S.Storied.story g.S.Storied.frame g.S.Storied.by i.table.shared.key _ _ _ _ c.into_vec.result.items c.take-slot.result c.close_with-closed.ensures.values.2 (ap (λ m. m.0) c.gather_passes-seat.ensures.view) all c.gather_passes-seat.ensures.frames c.take-slot.ensures.value in
     let same = some_same w.0 c.in-Some.state (sym w.1 ∙ c.in-Some.is) in
     let IsBorneOut : g.row.S.Denot → List (PassView g.row.S-Entry.Denot g.row.S-Frame.Denot) → Type 0 = λ x passes. All (λ p. BearsPassOut g.S.Storied.story g.S.Storied.frame g.S.Storied.by x p) passes in
-    subst (λ passes. IsBorneOut c.in-Some.state passes) c.into_vec.ensures (subst (λ x. IsBorneOut x c.into_vec.result.items) same w.2)
+    let known = subst (λ passes. IsBorneOut c.in-Some.state passes) c.into_vec.ensures (subst (λ x. IsBorneOut x c.into_vec.result.items) same w.2) in
+    subst (λ x. IsBorneOut x c.args.passes) (sym c.into_state.ensures) known
 
 pub returns-clause-callers : goal.returns-clause-callers
 returns-clause-callers g c =
@@ -28,4 +29,5 @@ returns-clause-callers g c =
     let w = closes g.S.Storied.story g.S.Storied.frame g.S.Storied.by i.table.shared.key _ _ _ _ c.into_vec.result.items c.take-slot.result c.close_with-closed.ensures.values.2 (ap (λ m. m.0) c.gather_passes-seat.ensures.view) all c.gather_passes-seat.ensures.frames c.take-slot.ensures.value in
     let same = some_same w.0 c.in-Some.state (sym w.1 ∙ c.in-Some.is) in
     let n = c.self.invariant.2 ∙ ap (λ l. l.passes) c.self.view_is in
-    all_callers g.S.Storied.story g.S.Storied.frame g.S.Storied.by c.args.self c.args.passes c.in-Some.state c.requires.2 (λ k le. ap (λ x. entries_by g.S.Storied.by k (g.S.Storied.story x)) (sym same) ∙ w.3 k (omega arith))
+    let back = c.into_state.ensures ∙ sym same in
+    all_callers g.S.Storied.story g.S.Storied.frame g.S.Storied.by c.args.self c.args.passes c.into_state.result c.requires.2 (λ k le. ap (λ x. entries_by g.S.Storied.by k (g.S.Storied.story x)) back ∙ w.3 k (omega arith))

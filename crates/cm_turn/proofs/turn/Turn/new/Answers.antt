@@ -2,4 +2,4 @@ use Rattle.cm_turn.proofs.PassSteps.{opens}
 use Rattle.cm_turn.proofs.turn.Turn.new.Goals as goal
 
 pub vacant-made-requires : goal.vacant-made-requires
-vacant-made-requires g c = opens g.S.Storied.story g.S.Storied.frame g.S.Storied.by (c.args.state, c.args.passes) c.requires.passes.0 c.requires.passes.1
+vacant-made-requires g c = opens g.S.Storied.story g.S.Storied.frame g.S.Storied.by (c.in-Ok-new-2.state, c.args.passes) c.requires.passes.0 c.requires.passes.1
