@@ -10,7 +10,11 @@ use atomic_table::{Join, Play, Split, TableRule};
 /// The rule. The key has the first state, whose frame is the lock's, and the number of passes.
 pub struct InTurns;
 
-impl<S: Storied> TableRule<Option<BoxedState<S>>, SeatView<S::Entry, S::Frame>, (BoxedState<S>, u32)> for InTurns {
+impl<S: Storied> TableRule<
+    Option<BoxedState<S>>,
+    SeatView<S::Entry, S::Frame>,
+    (BoxedState<S>, u32),
+> for InTurns {
     ghost use Rattle.cm_turn.specs.Views.{maker};
     ghost use Rattle.cm_turn.specs.Rule.{KeepsRule};
 
