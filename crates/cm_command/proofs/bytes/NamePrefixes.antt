@@ -1,0 +1,41 @@
+-- A name that bytes begin with.
+use Rattle.std.proofs.Common.{◌≡◌, ℕ, suc, ◌+◌, ◌-◌, ◌≤◌, List, [], ◌∷◌, ◌++◌, length, take, drop, get_or, IsTrue, sym, ap, subst, ◌∙◌, arith}
+use Rattle.std.specs.List.{prefix_len, take_while}
+use Rattle.std.proofs.lemmas.List.{length-take-le, length-drop, take_all, take-append-drop}
+use Rattle.std.proofs.lemmas.List.Folds.{length-prefix_len}
+use Rattle.std.proofs.lemmas.List.Sums.{prefix_len-le-length}
+use Rattle.cm_names.specs.Name.{IsName, begins_name, continues_name}
+use Rattle.cm_command.proofs.bytes.Runs.{run_passes}
+
+-- what begins as a name does, with bytes of a name behind it, is one
+begun_name : (b : ℕ) (bs : List ℕ) (n : ℕ) → IsTrue (begins_name b) → n ≡ length (take_while continues_name bs) → n + 1 ≤ 255
+    → IsName (b ∷ take n bs)
+begun_name b bs n begins count fits =
+    let same : n ≡ prefix_len continues_name bs = count ∙ length-prefix_len continues_name bs in
+    let bound = prefix_len-le-length continues_name bs in
+    let len : length (take n bs) ≡ n = length-take-le n bs (omega arith) in
+    (omega arith, begins, run_passes continues_name bs n (omega arith))
+
+-- what stands behind the first n bytes, to the end, is all behind them
+to_end : (t : List ℕ) (n : ℕ) → n ≤ length t → take (length t - n) (drop n t) ≡ drop n t
+to_end t n le = take_all (length t - n) (drop n t) (omega (arith, length-drop n t))
+
+-- so do these first bytes of some
+pub prefix_name : (t : List ℕ) (n d : ℕ) → 1 ≤ length t → IsTrue (begins_name (get_or t 0 d))
+    → n ≡ length (take_while continues_name (take (length t - 1) (drop 1 t))) → n + 1 ≤ 255 → IsName (take (n + 1) t)
+prefix_name [] n d some begins count fits = absurd (omega arith)
+prefix_name (b ∷ bs) n d some begins count fits =
+    let next : suc n ≡ n + 1 = omega arith in
+    let behind = count ∙ ap (λ r. length (take_while continues_name r)) (to_end (b ∷ bs) 1 some) in
+    subst (λ k. IsName (take k (b ∷ bs))) next (begun_name b bs n begins behind fits)
+
+-- with what stands behind them they are all bytes
+pub cut_prefix : (t : List ℕ) (n : ℕ) → 1 ≤ length t → n ≡ length (take_while continues_name (take (length t - 1) (drop 1 t)))
+    → t ≡ take (n + 1) t ++ take (length t - (n + 1)) (drop (n + 1) t)
+cut_prefix t n some count =
+    let rest = take (length t - 1) (drop 1 t) in
+    let behind : length rest ≡ length t - 1 = ap (λ r. length r) (to_end t 1 some) ∙ length-drop 1 t in
+    let bound = prefix_len-le-length continues_name rest in
+    let same : n ≡ prefix_len continues_name rest = count ∙ length-prefix_len continues_name rest in
+    let fits : n + 1 ≤ length t = omega arith in
+    sym (ap (λ r. take (n + 1) t ++ r) (to_end t (n + 1) fits) ∙ take-append-drop (n + 1) t)
