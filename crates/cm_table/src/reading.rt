@@ -15,7 +15,7 @@ pub fn is_that(builtin: &Builtin, kind: Kind, name: &Name) -> bool
     builtin.kind == kind && builtin.name == *name
 }
 
-/// An index as it is told.
+/// An index as it is told. The module is private: only the views of this crate's own rows call it.
 pub fn told_index(index: usize) -> u32
     ensures { result ≡ offering.told_index index }
 {
