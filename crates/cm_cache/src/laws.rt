@@ -47,8 +47,8 @@ pub fn walks_stay()
     ensures walks { laws.WalksStay }
 {}
 
-/// A cache into which the answers are put that a history keeps has the history's uses, one answer
-/// for each.
+/// A cache keeps an answer exactly for the uses of its answers, and an answer that is put in for a new use
+/// adds that use to them as a history does.
 pub fn caches_follow()
     ensures uses { laws.UsesAreKept }
     ensures puts { laws.PutsAddUses }
