@@ -229,6 +229,9 @@ pub(crate) fn serve<R: Threads + Wait + Sync, G: Gates, L: Link>(
 /// only if a failed write was; `LinesSpent` after 1,048,576 lines. `Memory` comes where memory ran
 /// out for a line or its reply, also where the link failed then. Whatever the end, the link is hung
 /// up.
+///
+/// It calls [`serve`] with a caller of this pass and these gates, as the workers of a server do with a
+/// caller of their own.
 pub fn session<R: Threads + Wait + Sync, G: Gates, L: Link>(
     rt: &R,
     alloc: Global,
