@@ -1,8 +1,10 @@
 //! A keeper that writes a file.
 
-ghost use Rattle.std.specs.Prelude.{◌≡◌, false, IfOk, Some};
+ghost use Rattle.std.specs.Prelude.{◌≡◌, false, true, [], ◌∷◌, IfErr, IfOk, Some};
 ghost use Rattle.cm_io.specs.Counts.{one_more};
+ghost use Rattle.cm_keep.specs.Asked.{Asks, AsksOneOf, names_at, unmade};
 ghost use Rattle.cm_keep.specs.Files.{beside_name};
+ghost use Rattle.cm_keep.specs.declared.place.PlaceCall.TheVariants as call;
 
 use crate::{FilePlace, TextKeeper};
 use cm_names::{Memory, Text};
@@ -31,20 +33,33 @@ impl<F: FilePlace + Drop> FileKeeper<F> {
     /// A keeper for this path, whose new file is there and empty. `number` is that of the process.
     ///
     /// `Err` where the path is empty or names a folder or a thing that is no regular file, and where no
-    /// file can be made beside it.
-    pub fn new(alloc: Global, files: F, number: u32, place: &Text) -> io::Result<FileKeeper<F>>
+    /// file can be made beside it: then `files` come back.
+    pub fn new(
+        alloc: Global,
+        mut files: F,
+        number: u32,
+        place: &Text,
+    ) -> Result<FileKeeper<F>, (F, Error)>
         ensures pending { IfOk result (λ keeper. ⟦<FileKeeper<F> as TextKeeper>⟧.pending keeper) }
         ensures faults { IfOk result (λ keeper. ⟦<FileKeeper<F> as TextKeeper>⟧.faults keeper ≡ 0) }
         ensures created { IfOk result (λ keeper. F.created keeper.beside keeper.file) }
         ensures place { IfOk result (λ keeper. keeper.place ≡ place.now) }
         ensures beside { IfOk result (λ keeper. keeper.beside ≡ beside_name place.now number) }
+        ensures asked { IfOk result (λ keeper. Asks (F.asked files) (F.asked keeper.files)
+            (call.Create (beside_name place.now number) true ∷ [])) }
+        ensures unmade { IfErr result (λ left.
+            AsksOneOf (F.asked files) (F.asked left.0) (unmade (names_at place.now number))) }
     {
-        files.check(place.as_str())?;
-        let (place, beside) = match names(alloc, number, place) {
-            Ok(names) => names,
-            Err(Memory) => return Err(Error::from(ErrorKind::OutOfMemory)),
+        if let Err(why) = files.check(place.as_str()) {
+            return Err((files, why));
+        }
+        let Ok((place, beside)) = names(alloc, number, place) else {
+            return Err((files, Error::from(ErrorKind::OutOfMemory)));
         };
-        let file = files.create(beside.as_str())?;
+        let file = match files.create(beside.as_str()) {
+            Ok(file) => file,
+            Err(why) => return Err((files, why)),
+        };
         Ok(FileKeeper {
             files,
             place,
@@ -74,6 +89,23 @@ impl<F: FilePlace + Drop> FileKeeper<F> {
         Ok(line)
     }
 
+    /// What it was made with, through which it asked all that it did.
+    pub fn into_files(self) -> F
+        ensures { result ≡ self.files }
+    {
+        let FileKeeper {
+            files,
+            place: _,
+            beside: _,
+            file: _,
+            is_pending: _,
+            is_left: _,
+            faults: _,
+            why: _,
+        } = self;
+        files
+    }
+
     /// Counts a fault, and keeps why there was one.
     fn fail(&mut self, why: Error)
         ensures { let faults = one_more self.old.faults in
@@ -95,7 +127,7 @@ fn names(alloc: Global, number: u32, place: &Text) -> Result<(Text, Text), Memor
 }
 
 impl<F: FilePlace + Drop> TextKeeper for FileKeeper<F> {
-    ghost use Rattle.std.specs.Prelude.{◌≡◌, [], ◌∷◌, None, false, true};
+    ghost use Rattle.std.specs.Prelude.{◌≡◌, None, false, true};
 
     ghost draft = { λ k. F.Draft.contents k.file };
 
@@ -104,7 +136,9 @@ impl<F: FilePlace + Drop> TextKeeper for FileKeeper<F> {
     ghost placed = { λ k text. (text ≡ F.Draft.contents k.file) × F.synced k.file
         × F.renamed k.beside k.place };
 
-    ghost names = { λ k. k.beside ∷ k.place ∷ [] };
+    ghost names = { λ k. record { beside = k.beside; place = k.place } };
+
+    ghost asked = { λ k. F.asked k.files };
 
     ghost pending = { λ k. k.is_pending ≡ true };
 
@@ -146,7 +180,9 @@ impl<F: FilePlace + Drop> TextKeeper for FileKeeper<F> {
 
     /// Has the system remove the file beside the place. Whether it does is the system's own.
     fn give_up(&mut self)
-        ensures cleared { self.new ≡ record self.old { is_pending = false } }
+        ensures cleared { self.new ≡ record self.old { files = self.new.files; is_pending = false } }
+        ensures asked { Asks (F.asked self.old.files) (F.asked self.new.files)
+            (call.Remove self.old.beside ∷ []) }
         ensures unnamed { F.unnamed self.old.beside }
     {
         self.files.remove(self.beside.as_str());

@@ -4,6 +4,7 @@ ghost use Rattle.std.specs.Prelude.{◌≡◌, [], IfOk, OnErr, OnOk, string_byt
 ghost use Rattle.std.specs.Io.KnownBytes.{Appends};
 ghost use Rattle.cm_reply.specs.Journal as journal;
 ghost use Rattle.cm_reply.specs.ListsInside.{GainsText};
+ghost use Rattle.cm_keep.specs.Asked.{Asks, AsksOneOf, failed_keeping, placing};
 ghost use Rattle.cm_keep.specs.Keeping.{Caused, IsKept, IsLeft, Passes, kept_text, rooted};
 
 use crate::TextKeeper;
@@ -61,6 +62,7 @@ fn hand_over<P: TextKeeper>(keeper: &mut P, held: &mut String) -> Result<(), Kee
     ensures empty { OnOk result (string_bytes held.new ≡ []) }
     ensures shown { P.shown keeper.new ≡ P.shown keeper.old }
     ensures names { P.names keeper.new ≡ P.names keeper.old }
+    ensures asked { P.asked keeper.new ≡ P.asked keeper.old }
     ensures cause { Caused (P.faults keeper.old) (P.faults keeper.new) result }
 {
     if !keeper.put(held.as_str().as_bytes()) {
@@ -85,6 +87,7 @@ fn keep_entry<P: TextKeeper>(
         (journal.line (journal.entry_text number entry.now))) }
     ensures shown { P.shown keeper.new ≡ P.shown keeper.old }
     ensures names { P.names keeper.new ≡ P.names keeper.old }
+    ensures asked { P.asked keeper.new ≡ P.asked keeper.old }
     ensures cause { Caused (P.faults keeper.old) (P.faults keeper.new) result }
 {
     let Ok(()) = push_line(held, number, entry) else {
@@ -108,6 +111,7 @@ fn keep_entries<P: TextKeeper>(
         (string_bytes held.old) (string_bytes held.new) (journal.entries_text 1 entries.now)) }
     ensures shown { P.shown keeper.new ≡ P.shown keeper.old }
     ensures names { P.names keeper.new ≡ P.names keeper.old }
+    ensures asked { P.asked keeper.new ≡ P.asked keeper.old }
     ensures cause { Caused (P.faults keeper.old) (P.faults keeper.new) result }
 {
     for index in 0..entries.len() {
@@ -131,6 +135,7 @@ fn hand_journal<P: TextKeeper>(
         (Appends (P.draft keeper.old) (P.draft keeper.new) (kept_text root.now entries.now)) }
     ensures shown { P.shown keeper.new ≡ P.shown keeper.old }
     ensures names { P.names keeper.new ≡ P.names keeper.old }
+    ensures asked { P.asked keeper.new ≡ P.asked keeper.old }
     ensures cause { Caused (P.faults keeper.old) (P.faults keeper.new) result }
 {
     let Ok(head) = head_of(alloc, root) else {
@@ -165,6 +170,10 @@ pub fn keep_journal<P: TextKeeper>(
     ensures kept { OnOk result (IsKept (P.draft keeper.old) (P.shown keeper.old) (P.shown keeper.new)
         (P.placed keeper.new) (kept_text root.now entries.now)) }
     ensures names { P.names keeper.new ≡ P.names keeper.old }
+    ensures asked { OnOk result
+        (Asks (P.asked keeper.old) (P.asked keeper.new) (placing (P.names keeper.old))) }
+    ensures unkept { OnErr result
+        (AsksOneOf (P.asked keeper.old) (P.asked keeper.new) (failed_keeping (P.names keeper.old))) }
     ensures nothing { OnErr result (P.shown keeper.new ≡ P.shown keeper.old) }
     ensures left { IsLeft (P.cleared keeper.new) (P.draft keeper.old) (P.draft keeper.new)
         (kept_text root.now entries.now) result }

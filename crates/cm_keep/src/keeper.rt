@@ -2,12 +2,15 @@
 
 ghost use Rattle.std.specs.Prelude.{◌≡◌, ◌⊎◌, false, true};
 ghost use Rattle.std.specs.Io.KnownBytes.{Appends};
+ghost use Rattle.cm_keep.specs.Asked.{Asks, AsksOneOf, failed_placing, giving_up, placing};
 ghost use Rattle.cm_keep.specs.Keeping.{Counted, PutsUp};
 
 /// A place for one text, which is handed over piece by piece and put there when it is whole. Nobody sees
 /// a piece of it before. A keeper counts its faults, from 0 to 2^64 - 1, where the count stays.
 pub trait TextKeeper: Drop {
     ghost use Rattle.std.specs.Prelude.{ℕ, List, Option};
+    ghost use Rattle.cm_keep.specs.Asked.{FileNames};
+    ghost use Rattle.cm_keep.specs.declared.place.PlaceCall.{PlaceCall};
 
     /// The bytes that were handed over, where they are known.
     ghost draft: { Self → Option (List ℕ) };
@@ -22,7 +25,10 @@ pub trait TextKeeper: Drop {
     ghost placed: { Self → Option (List ℕ) → Type 0 };
 
     /// The names that the text is written under, one after the other. They stay.
-    ghost names: { Self → List (List ℕ) };
+    ghost names: { Self → FileNames };
+
+    /// What the files' own place was asked so far, where that is told.
+    ghost asked: { Self → Option (List PlaceCall) };
 
     /// Nothing of what was handed over is held any more, but what stands in the place.
     ghost cleared: { Self → Type 0 };
@@ -38,6 +44,7 @@ pub trait TextKeeper: Drop {
         ensures bytes { result ≡ true → Appends (draft self.old) (draft self.new) bytes.now }
         ensures shown { shown self.new ≡ shown self.old }
         ensures names { names self.new ≡ names self.old }
+        ensures asked { asked self.new ≡ asked self.old }
         ensures cause { Counted (faults self.old) (faults self.new) result };
 
     /// Puts the text into the place. Whether it stands there now; where it failed, what stood there before
@@ -48,6 +55,9 @@ pub trait TextKeeper: Drop {
         ensures placed { result ≡ true → placed self.new (draft self.old) }
         ensures failed { result ≡ false → shown self.new ≡ shown self.old }
         ensures names { names self.new ≡ names self.old }
+        ensures asked { result ≡ true → Asks (asked self.old) (asked self.new) (placing (names self.old)) }
+        ensures unplaced { result ≡ false →
+            AsksOneOf (asked self.old) (asked self.new) (failed_placing (names self.old)) }
         ensures cleared { result ≡ true → cleared self.new }
         ensures held { result ≡ false → cleared self.new ⊎ (draft self.new ≡ draft self.old) }
         ensures cause { Counted (faults self.old) (faults self.new) result };
@@ -58,5 +68,6 @@ pub trait TextKeeper: Drop {
         ensures cleared { cleared self.new }
         ensures shown { shown self.new ≡ shown self.old }
         ensures names { names self.new ≡ names self.old }
+        ensures asked { Asks (asked self.old) (asked self.new) (giving_up (names self.old)) }
         ensures faults { faults self.new ≡ faults self.old };
 }

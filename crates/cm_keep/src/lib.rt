@@ -7,6 +7,7 @@
 //! | file of `specs/` | says |
 //! |---|---|
 //! | `Keeping` | what the journal of a served realm is, and what it means that it is kept |
+//! | `Asked` | what a place of files is asked for that |
 //! | `Files` | what it means that it stands in a file |
 //! | `Service` | of which service a journal is kept |
 #![tactic(auto)]
@@ -25,5 +26,5 @@ pub use file::{FileKeeper, fault_line};
 pub use keep::{KeepFault, keep_journal};
 pub use keeper::TextKeeper;
 pub use memory::MemoryKeeper;
-pub use place::FilePlace;
+pub use place::{FilePlace, PlaceCall};
 pub use service::{Keeping, Unkept, keep_book, keep_service, keeping_of, try_keeping};

@@ -82,7 +82,7 @@ impl MemoryKeeper {
 }
 
 impl TextKeeper for MemoryKeeper {
-    ghost use Rattle.std.specs.Prelude.{◌≡◌, [], Some, true, ⊤};
+    ghost use Rattle.std.specs.Prelude.{◌≡◌, [], None, Some, true, ⊤};
 
     ghost draft = { λ k. Some k.draft.items };
 
@@ -90,7 +90,9 @@ impl TextKeeper for MemoryKeeper {
 
     ghost placed = { λ _ _. ⊤ };
 
-    ghost names = { λ _. [] };
+    ghost names = { λ _. record { beside = []; place = [] } };
+
+    ghost asked = { λ _. None };
 
     ghost pending = { λ k. k.is_pending ≡ true };
 

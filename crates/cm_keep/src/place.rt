@@ -1,20 +1,40 @@
 //! Where a file is written under one name and then gets another one.
 
-ghost use Rattle.std.specs.Prelude.{IfOk};
+ghost use Rattle.std.specs.Prelude.{[], ◌∷◌, IfOk, is_ok};
+ghost use Rattle.cm_keep.specs.Asked.{Asks};
 
+use cm_names::Text;
 use std::fs::{OpenFile, OpenOptions};
 use std::io::{Error, ErrorKind, Write};
 use std::rt::Files;
 use std::{fs, io};
 
+/// What a place of files was asked, with the names that it was told, and whether that went well.
+#[derive(Debug, Drop)]
+pub enum PlaceCall {
+    /// To make a new file of this name.
+    Create(Text, bool),
+    /// To have what was written into a file reach the disk.
+    Sync(bool),
+    /// To give what has the first name the second one.
+    Rename(Text, Text, bool),
+    /// To take away what has this name. How that went isn't told.
+    Remove(Text),
+}
+
 /// Where files have names.
 ///
-/// Each system of files is such a place, which says nothing of what its files are called.
+/// A place may tell all that it was asked. Each system of files is a place, which tells neither that nor
+/// what its files are called.
 pub trait FilePlace {
-    ghost use Rattle.std.specs.Prelude.{ℕ, List};
+    ghost use Rattle.std.specs.Prelude.{ℕ, List, Option};
+    ghost use Rattle.cm_keep.specs.declared.place.PlaceCall.{PlaceCall};
 
     /// A file that is written.
     type Draft: Write + Drop;
+
+    /// What it was asked so far, one after the other, where that is told.
+    ghost asked: { Self → Option (List PlaceCall) };
 
     /// A new file has this name, and nothing was written into it yet.
     ghost created: { List ℕ → Self.Draft → Type 0 };
@@ -33,27 +53,35 @@ pub trait FilePlace {
     fn check(&self, name: &str) -> io::Result<()>;
 
     /// Makes a new file of this name. One that is left there is taken away before.
-    fn create(&self, name: &str) -> io::Result<Self::Draft>
-        ensures { IfOk result (λ file. created name.now file) };
+    fn create(&mut self, name: &str) -> io::Result<Self::Draft>
+        ensures created { IfOk result (λ file. created name.now file) }
+        ensures asked { Asks (asked self.old) (asked self.new)
+            (PlaceCall.Create name.now (is_ok result) ∷ []) };
 
     /// Has what was written into a file reach the disk.
-    fn sync(&self, file: &Self::Draft) -> io::Result<()>
-        ensures { IfOk result (λ _. synced file.now) };
+    fn sync(&mut self, file: &Self::Draft) -> io::Result<()>
+        ensures synced { IfOk result (λ _. synced file.now) }
+        ensures asked { Asks (asked self.old) (asked self.new) (PlaceCall.Sync (is_ok result) ∷ []) };
 
     /// Gives what has the first name the second one.
-    fn rename(&self, from: &str, to: &str) -> io::Result<()>
-        ensures { IfOk result (λ _. renamed from.now to.now) };
+    fn rename(&mut self, from: &str, to: &str) -> io::Result<()>
+        ensures renamed { IfOk result (λ _. renamed from.now to.now) }
+        ensures asked { Asks (asked self.old) (asked self.new)
+            (PlaceCall.Rename from.now to.now (is_ok result) ∷ []) };
 
     /// Takes away what has this name, where that is possible.
-    fn remove(&self, name: &str)
-        ensures { unnamed name.now };
+    fn remove(&mut self, name: &str)
+        ensures unnamed { unnamed name.now }
+        ensures asked { Asks (asked self.old) (asked self.new) (PlaceCall.Remove name.now ∷ []) };
 }
 
 impl<F: Files> FilePlace for F {
-    ghost use Rattle.std.specs.Prelude.{⊤};
+    ghost use Rattle.std.specs.Prelude.{None, ⊤};
 
     /// A file of the file system.
     type Draft = F::File;
+
+    ghost asked = { λ _. None };
 
     ghost created = { λ _ _. ⊤ };
 
@@ -82,7 +110,7 @@ impl<F: Files> FilePlace for F {
 
     /// Opens a new file at the path. A file that is left of a process which was killed is taken away
     /// before.
-    fn create(&self, name: &str) -> io::Result<F::File> {
+    fn create(&mut self, name: &str) -> io::Result<F::File> {
         match fs::remove_file(self, name) {
             Ok(()) => {}
             Err(error) if error.kind() == ErrorKind::NotFound => {}
@@ -95,17 +123,17 @@ impl<F: Files> FilePlace for F {
     }
 
     /// Syncs the file.
-    fn sync(&self, file: &F::File) -> io::Result<()> {
+    fn sync(&mut self, file: &F::File) -> io::Result<()> {
         file.sync_all()
     }
 
     /// Renames a file of the file system.
-    fn rename(&self, from: &str, to: &str) -> io::Result<()> {
+    fn rename(&mut self, from: &str, to: &str) -> io::Result<()> {
         fs::rename(self, from, to)
     }
 
     /// Removes a file of the file system. What the system says to that isn't told.
-    fn remove(&self, name: &str) {
+    fn remove(&mut self, name: &str) {
         match fs::remove_file(self, name) {
             Ok(()) => {}
             Err(_) => {}

@@ -1,9 +1,12 @@
 //! The journal of a service: where it is to be kept, and its keeping.
 
-ghost use Rattle.std.specs.Prelude.{◌≡◌, ◌⊎◌, IfOk, IsOk, OnErr, OnOk};
+ghost use Rattle.std.specs.Prelude.{◌≡◌, ◌⊎◌, true, [], ◌∷◌, IfErr, IfOk, IsOk, OnErr, OnOk};
+ghost use Rattle.cm_keep.specs.Asked.{Asks, AsksOneOf, failed_keeping, failing, names_at, placing, trying};
+ghost use Rattle.cm_keep.specs.Asked.{keeping as keeping_calls, unmade};
 ghost use Rattle.cm_keep.specs.Files.{IsTried, NeverBegan, StandsAt, beside_name};
 ghost use Rattle.cm_keep.specs.Keeping.{Caused, IsKept, IsLeft, kept_text};
 ghost use Rattle.cm_keep.specs.Service.{Plans};
+ghost use Rattle.cm_keep.specs.declared.place.PlaceCall.TheVariants as call;
 
 use crate::{FileKeeper, FilePlace, KeepFault, TextKeeper, fault_line, keep_journal};
 use cm_book::Book;
@@ -65,32 +68,43 @@ fn keeper_of<F: FilePlace + Drop>(
     files: F,
     number: u32,
     keeping: &Keeping,
-) -> Result<FileKeeper<F>, Unkept>
+) -> Result<FileKeeper<F>, (F, Unkept)>
     ensures pending { IfOk result (λ keeper. ⟦<FileKeeper<F> as TextKeeper>⟧.pending keeper) }
     ensures created { IfOk result (λ keeper. F.created keeper.beside keeper.file) }
     ensures place { IfOk result (λ keeper. keeper.place ≡ keeping.now.at) }
     ensures beside { IfOk result (λ keeper. keeper.beside ≡ beside_name keeping.now.at number) }
+    ensures asked { IfOk result (λ keeper. Asks (F.asked files) (F.asked keeper.files)
+        (call.Create (beside_name keeping.now.at number) true ∷ [])) }
+    ensures unmade { IfErr result (λ left.
+        AsksOneOf (F.asked files) (F.asked left.0) (unmade (names_at keeping.now.at number))) }
 {
     match FileKeeper::new(alloc, files, number, &keeping.at) {
         Ok(keeper) => Ok(keeper),
-        Err(why) if why.kind() == ErrorKind::OutOfMemory => Err(Unkept::Memory),
-        Err(why) => Err(as_unkept(fault_line(alloc, &keeping.at, &why))),
+        Err((files, why)) if why.kind() == ErrorKind::OutOfMemory => Err((files, Unkept::Memory)),
+        Err((files, why)) => Err((files, as_unkept(fault_line(alloc, &keeping.at, &why)))),
     }
 }
 
 /// Tries whether the journal can be kept, before there is one: makes a file beside its place, and takes it
-/// away again.
+/// away again. Nothing else is asked of `files`, which come back.
 pub fn try_keeping<F: FilePlace + Drop>(
     alloc: Global,
     files: F,
     number: u32,
     keeping: &Keeping,
-) -> Result<(), Unkept>
-    ensures { OnOk result (IsTried F.created F.unnamed (beside_name keeping.now.at number)) }
+) -> (F, Result<(), Unkept>)
+    ensures tried { OnOk result.1 (IsTried F.created F.unnamed (beside_name keeping.now.at number)) }
+    ensures asked { OnOk result.1
+        (Asks (F.asked files) (F.asked result.0) (trying (names_at keeping.now.at number))) }
+    ensures unmade { OnErr result.1
+        (AsksOneOf (F.asked files) (F.asked result.0) (unmade (names_at keeping.now.at number))) }
 {
-    let mut keeper = keeper_of(alloc, files, number, keeping)?;
+    let mut keeper = match keeper_of(alloc, files, number, keeping) {
+        Ok(keeper) => keeper,
+        Err((files, why)) => return (files, Err(why)),
+    };
     keeper.give_up();
-    Ok(())
+    (keeper.into_files(), Ok(()))
 }
 
 /// Keeps the journal of this history, of a realm of that root.
@@ -104,6 +118,10 @@ pub fn keep_book<P: TextKeeper>(
     ensures kept { OnOk result (IsKept (P.draft keeper.old) (P.shown keeper.old) (P.shown keeper.new)
         (P.placed keeper.new) (kept_text keeping.now.root book.now.entries)) }
     ensures names { P.names keeper.new ≡ P.names keeper.old }
+    ensures asked { OnOk result
+        (Asks (P.asked keeper.old) (P.asked keeper.new) (placing (P.names keeper.old))) }
+    ensures unkept { OnErr result
+        (AsksOneOf (P.asked keeper.old) (P.asked keeper.new) (failed_keeping (P.names keeper.old))) }
     ensures nothing { OnErr result (P.shown keeper.new ≡ P.shown keeper.old) }
     ensures left { IsLeft (P.cleared keeper.new) (P.draft keeper.old) (P.draft keeper.new)
         (kept_text keeping.now.root book.now.entries) result }
@@ -115,7 +133,9 @@ pub fn keep_book<P: TextKeeper>(
 /// Keeps the journal of this history in its file. A service that failed before anything happened in it,
 /// by its status, leaves what stands there.
 ///
-/// At `Ok` that is so, or the journal stands in the file whose name was asked for.
+/// At `Ok` that is so, or the journal stands in the file whose name was asked for. Nothing is asked of
+/// `files` but a new file beside its place, which reaches the disk and is renamed; where that fails, no more
+/// than a first part of it, and that the new file is taken away. They come back.
 pub fn keep_service<F: FilePlace + Drop>(
     alloc: Global,
     files: F,
@@ -123,19 +143,28 @@ pub fn keep_service<F: FilePlace + Drop>(
     keeping: &Keeping,
     status: u8,
     book: &Book,
-) -> Result<(), Unkept>
-    ensures unbegun { NeverBegan status book.now.entries → IsOk result }
-    ensures kept { OnOk result (NeverBegan status book.now.entries
+) -> (F, Result<(), Unkept>)
+    ensures unbegun { NeverBegan status book.now.entries → IsOk result.1 }
+    ensures untouched { NeverBegan status book.now.entries → result.0 ≡ files }
+    ensures kept { OnOk result.1 (NeverBegan status book.now.entries
         ⊎ StandsAt F.Draft.contents F.created F.synced F.renamed (beside_name keeping.now.at number)
         keeping.now.at (kept_text keeping.now.root book.now.entries)) }
+    ensures asked { OnOk result.1 (NeverBegan status book.now.entries
+        ⊎ Asks (F.asked files) (F.asked result.0) (keeping_calls (names_at keeping.now.at number))) }
+    ensures failed { OnErr result.1
+        (AsksOneOf (F.asked files) (F.asked result.0) (failing (names_at keeping.now.at number))) }
 {
     if status != 0 && book.entries().is_empty() {
-        return Ok(());
+        return (files, Ok(()));
     }
-    let mut keeper = keeper_of(alloc, files, number, keeping)?;
-    match keep_book(alloc, &mut keeper, keeping, book) {
+    let mut keeper = match keeper_of(alloc, files, number, keeping) {
+        Ok(keeper) => keeper,
+        Err((files, why)) => return (files, Err(why)),
+    };
+    let kept = match keep_book(alloc, &mut keeper, keeping, book) {
         Ok(()) => Ok(()),
         Err(KeepFault::Memory) => Err(Unkept::Memory),
         Err(KeepFault::Failed) => Err(as_unkept(keeper.fault_line(alloc))),
-    }
+    };
+    (keeper.into_files(), kept)
 }

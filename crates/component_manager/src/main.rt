@@ -115,10 +115,12 @@ fn journal_of<R: env::Env + Alloc<A = Global>>(
 
 /// Tries whether the journal that is to be kept can be, before the door opens.
 fn try_journal(rt: &HostRuntime, keeping: &Option<Keeping>) -> Result<(), Unkept> {
-    match keeping {
-        Some(keeping) => try_keeping(rt.alloc(), *rt, process::id(rt.process()), keeping),
-        None => Ok(()),
-    }
+    let Some(keeping) = keeping else {
+        return Ok(());
+    };
+    let number = process::id(rt.process());
+    let (_files, tried) = try_keeping(rt.alloc(), *rt, number, keeping);
+    tried
 }
 
 /// Keeps the journal that is to be kept.
@@ -132,7 +134,8 @@ fn keep_journal(
         return Ok(());
     };
     let number = process::id(rt.process());
-    keep_service(rt.alloc(), *rt, number, keeping, status, book)
+    let (_files, kept) = keep_service(rt.alloc(), *rt, number, keeping, status, book);
+    kept
 }
 
 /// Says on the error stream why a journal isn't kept. The program ends so, unless its run had a status of

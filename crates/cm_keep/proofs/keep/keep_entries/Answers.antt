@@ -15,6 +15,7 @@ loop-index-preserved g c =
       pending = c.in_default.ensures.pending;
       shown = c.in_default.ensures.shown ∙ c.loop-index.invariant.shown;
       names = c.in_default.ensures.names ∙ c.loop-index.invariant.names;
+      asked = c.in_default.ensures.asked ∙ c.loop-index.invariant.asked;
       faults = c.in_default.ensures.cause ∙ c.loop-index.invariant.faults;
       passes = goes_on _ _ _ _ (string_bytes c.loop-index.held) _ line rest _ (subst (λ more. Passes (g.P.TextKeeper.draft c.args.keeper.now) (g.P.TextKeeper.draft c.loop-index.keeper) (string_bytes c.args.held.now) (string_bytes c.loop-index.held ++ more) (entries_text 1 es)) (next_line es i e c.loop-index-test.true (sym c.index-entries-index.is)) c.loop-index.invariant.passes) c.in_default.ensures.passes;
     }

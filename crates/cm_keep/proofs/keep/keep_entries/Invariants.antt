@@ -9,6 +9,7 @@ invariant-loop-index g l = record {
   pending : g.P.TextKeeper.pending l.keeper;
   shown : g.P.TextKeeper.shown l.keeper ≡ g.P.TextKeeper.shown l.fn.keeper;
   names : g.P.TextKeeper.names l.keeper ≡ g.P.TextKeeper.names l.fn.keeper;
+  asked : g.P.TextKeeper.asked l.keeper ≡ g.P.TextKeeper.asked l.fn.keeper;
   faults : g.P.TextKeeper.faults l.keeper ≡ g.P.TextKeeper.faults l.fn.keeper;
   passes : Passes (g.P.TextKeeper.draft l.fn.keeper) (g.P.TextKeeper.draft l.keeper) (string_bytes l.fn.held)
       (string_bytes l.held ++ entries_text (l.index + 1) (drop l.index l.entries)) (entries_text 1 l.fn.entries);

@@ -1,0 +1,13 @@
+use Rattle.std.proofs.Common.{ap, rules}
+use Rattle.cm_keep.proofs.Asking.{at_err, failed_behind}
+use Rattle.cm_keep.proofs.service.keep_service.Goals.{in-Ok-keep_book, in-Err-Memory, in-Err-Failed}
+use Rattle.cm_keep.proofs.service.keep_service.Goals as goal
+
+pub returns-clause-failed : goal.returns-clause-failed
+returns-clause-failed g c =
+    let made = c.in-Ok.ensures in
+    elim c.match-keep_book.branch [
+      | in-Ok-keep_book w ↦ search rules
+      | in-Err-Memory w ↦ at_err _ _ w.kept-is (failed_behind _ _ _ _ _ _ _ made.asked w.in-Err-Memory.ensures.unkept made.beside made.place (ap g.F.FilePlace.asked c.into_files.ensures))
+      | in-Err-Failed w ↦ at_err _ _ w.kept-is (failed_behind _ _ _ _ _ _ _ made.asked w.in-Err-Failed.ensures.unkept made.beside made.place (ap g.F.FilePlace.asked c.into_files.ensures))
+    ]

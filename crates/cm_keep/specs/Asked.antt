@@ -1,0 +1,74 @@
+-- Inside.
+-- What a place of files is asked for the keeping of a journal, call by call.
+use Rattle.std.specs.Prelude.{◌≡◌, ◌⊎◌, ℕ, List, [], ◌∷◌, ◌++◌, true, false, Option, Some, None}
+use Rattle.cm_reply.specs.Lists.{TextBytes}
+use Rattle.cm_keep.specs.Files.{beside_name}
+use Rattle.cm_keep.specs.declared.place.PlaceCall.{PlaceCall}
+use Rattle.cm_keep.specs.declared.place.PlaceCall.TheVariants as call
+
+-- ---- logs
+
+-- a place was asked these calls more and nothing else, where it tells what it was asked
+abbrev pub Asks : Option (List PlaceCall) → Option (List PlaceCall) → List PlaceCall → Type 0
+Asks None new calls = Unit {0}
+Asks (Some old) new calls = new ≡ Some (old ++ calls)
+
+-- the same for the calls of one of these lists
+abbrev pub AsksOneOf : Option (List PlaceCall) → Option (List PlaceCall) → List (List PlaceCall) → Type 0
+AsksOneOf old new [] = ⊥
+AsksOneOf old new (calls ∷ others) = Asks old new calls ⊎ AsksOneOf old new others
+
+-- ---- the calls of a keeping
+
+-- the names that a text is written under: first that of a new file beside its place, then the place itself
+pub record FileNames : Type 0 where
+  pub beside : TextBytes
+  pub place : TextBytes
+
+-- those of a journal, by the number of the process
+abbrev pub names_at : TextBytes → ℕ → FileNames
+names_at place number = record { beside = beside_name place number; place = place }
+
+-- the text, which was written, is put into its place
+abbrev pub placing : FileNames → List PlaceCall
+placing n = call.Sync true ∷ call.Rename n.beside n.place true ∷ []
+
+-- it is given up
+abbrev pub giving_up : FileNames → List PlaceCall
+giving_up n = call.Remove n.beside ∷ []
+
+-- it isn't put into its place: it didn't reach the disk, and is given up; or the renaming failed
+abbrev pub failed_placing : FileNames → List (List PlaceCall)
+failed_placing n =
+    (call.Sync false ∷ call.Remove n.beside ∷ [])
+    ∷ (call.Sync true ∷ call.Rename n.beside n.place false ∷ [])
+    ∷ []
+
+-- a keeper fails: the text is given up before it is whole, or isn't put into its place
+abbrev pub failed_keeping : FileNames → List (List PlaceCall)
+failed_keeping n = giving_up n ∷ failed_placing n
+
+-- ---- all calls of a service
+
+-- no new file is made: none is asked for, or it can't be made
+abbrev pub unmade : FileNames → List (List PlaceCall)
+unmade n = [] ∷ (call.Create n.beside false ∷ []) ∷ []
+
+-- a new file is made, and is taken away again
+abbrev pub trying : FileNames → List PlaceCall
+trying n = call.Create n.beside true ∷ call.Remove n.beside ∷ []
+
+-- a journal is kept: a new file is made beside its place, reaches the disk and is renamed to the place
+abbrev pub keeping : FileNames → List PlaceCall
+keeping n = call.Create n.beside true ∷ call.Sync true ∷ call.Rename n.beside n.place true ∷ []
+
+-- a journal isn't kept: no new file is made; or one is, and is given up before or behind its way to the
+-- disk; or the renaming fails, which comes last
+abbrev pub failing : FileNames → List (List PlaceCall)
+failing n =
+    []
+    ∷ (call.Create n.beside false ∷ [])
+    ∷ (call.Create n.beside true ∷ call.Remove n.beside ∷ [])
+    ∷ (call.Create n.beside true ∷ call.Sync false ∷ call.Remove n.beside ∷ [])
+    ∷ (call.Create n.beside true ∷ call.Sync true ∷ call.Rename n.beside n.place false ∷ [])
+    ∷ []
