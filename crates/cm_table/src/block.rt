@@ -59,8 +59,18 @@ fn begins_upto(blocks: &[RowBlock], place: usize, inc: u64) -> bool
     }
 }
 
-/// About where the block of that incarnation stands: exactly there where all blocks after the first
-/// one have as many slots, and none was removed but before them or at the end.
+/// Which of the first two blocks begins at that incarnation or below: the second one, or else the first.
+#[inline(always)]
+fn among_two(blocks: &[RowBlock], inc: u64) -> usize
+    requires { 2 ≤ length blocks.now }
+    ensures { result ≤ 1 }
+{
+    if inc < first_of(&blocks[1]) { 0 } else { 1 }
+}
+
+/// About where the block of that incarnation stands: exactly there where all blocks after the second
+/// one have as many slots, and none was removed but before them or at the end. The second one may have
+/// lost its first slots, so its own beginning says nothing of where the others stand.
 #[inline(always)]
 fn interpolated(blocks: &[RowBlock], inc: u64) -> usize
     ensures { result ≤ length blocks.now }
@@ -74,12 +84,15 @@ fn interpolated(blocks: &[RowBlock], inc: u64) -> usize
     if inc >= top {
         return last;
     }
-    let low = first_of(&blocks[1]);
-    if inc < low {
-        return 0;
+    if count < 4 {
+        return among_two(blocks, inc);
     }
-    let share = (inc - low).saturating_mul(last as u64 - 1) / (top - low);
-    (last - 1).min(share as usize) + 1
+    let low = first_of(&blocks[2]);
+    if inc < low {
+        return among_two(blocks, inc);
+    }
+    let share = (inc - low).saturating_mul(last as u64 - 2) / (top - low);
+    (last - 2).min(share as usize) + 2
 }
 
 /// The place of the block that the slot of that incarnation stands in, where that is this place or
