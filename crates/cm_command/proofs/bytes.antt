@@ -3,4 +3,3 @@ pub mod Pieces
 pub mod Found
 pub mod Runs
 pub mod Parts
-pub mod NamePrefixes

@@ -46,7 +46,6 @@ use cm_names::{
 };
 use cm_world::Target;
 use std::alloc::Global;
-use std::str;
 
 /// The most bytes of a URL, a moniker, a path and a subdirectory.
 const LONGEST: usize = 4096;
@@ -452,56 +451,13 @@ fn behind_byte(bytes: &[u8], byte: u8) -> Option<&[u8]>
     }
 }
 
-/// The text of these bytes, which are a name.
-fn name_text(bytes: &[u8]) -> &str
-    requires { IsName bytes.now }
-    ensures { result.now ≡ bytes.now }
-{
-    // The bytes of a name are ASCII.
-    unsafe { str::from_utf8_unchecked(bytes) }
-}
-
-/// The name that the bytes begin with, up to the first byte that may not stand in one, and what stands
-/// behind it. `None` says nothing of them; it comes where they begin with no name, and where more than 255
-/// bytes would be one.
-fn cut_name(bytes: &[u8]) -> Option<(&str, &[u8])>
-    ensures { IfSome result (λ cut. IsName cut.0.now × (bytes.now ≡ cut.0.now ++ cut.1.now)) }
-{
-    let [first, rest @ ..] = bytes else {
-        return None;
-    };
-    if !begins(*first) {
-        return None;
-    }
-    let count = name_bytes(rest) + 1;
-    if count > LONGEST_NAME {
-        return None;
-    }
-    Some((name_text(&bytes[..count]), &bytes[count..]))
-}
-
-/// The name that the bytes begin with, up to the first byte that may not stand in one, and what stands
-/// behind it. `None` says nothing of them.
-fn take_name(alloc: Global, bytes: &[u8]) -> Result<Option<(Name, &[u8])>, Memory>
-    ensures { IfOk result (λ found. IfSome found (λ cut. IsName cut.0 × (bytes.now ≡ cut.0 ++ cut.1.now))) }
-{
-    let Some((prefix, behind)) = cut_name(bytes) else {
-        return Ok(None);
-    };
-    match Name::read(alloc, prefix) {
-        Ok(name) => Ok(Some((name, behind))),
-        Err(NameFault::Memory) => Err(Memory),
-        Err(_) => Ok(None),
-    }
-}
-
 /// The name of a child that the bytes begin with, up to the first byte that may not stand in one, and what
 /// stands behind it. `None` says nothing of them.
 fn cut_child(alloc: Global, bytes: &[u8]) -> Result<Option<(ChildName, &[u8])>, Memory>
     ensures { IfOk result (λ found. IfSome found (λ cut.
         IsChildName cut.0 × (bytes.now ≡ child_text cut.0 ++ cut.1.now))) }
 {
-    let Some((first, behind)) = take_name(alloc, bytes)? else {
+    let Some((first, behind)) = Name::take_prefix(alloc, bytes)? else {
         return Ok(None);
     };
     let Some(more) = behind_byte(behind, b':') else {
@@ -513,7 +469,7 @@ fn cut_child(alloc: Global, bytes: &[u8]) -> Result<Option<(ChildName, &[u8])>, 
             behind,
         )));
     };
-    match take_name(alloc, more)? {
+    match Name::take_prefix(alloc, more)? {
         Some((name, behind)) => Ok(Some((
             ChildName {
                 coll: Some(first),

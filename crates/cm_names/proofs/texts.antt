@@ -1,4 +1,5 @@
 pub mod MonikerParts
+pub mod NameBytes
 pub mod NameLemmas
 pub mod PathLemmas
 pub mod ShortLemmas

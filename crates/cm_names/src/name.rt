@@ -1,14 +1,15 @@
 //! Names of components, collections and capabilities.
 
-ghost use Rattle.std.specs.Prelude.{ℕ, List, ◌↔◌, ◌≡◌, ◌≢◌, Some, None, ◌<◌, ◌≤◌, not, position, IsTrue};
-ghost use Rattle.std.specs.Prelude.{IfOk, IfErr, IfSome, IfNone, All, length};
+ghost use Rattle.std.specs.Prelude.{ℕ, List, ◌↔◌, ◌≡◌, ◌≢◌, ◌++◌, Some, None, ◌<◌, ◌≤◌, not, position};
+ghost use Rattle.std.specs.Prelude.{IsTrue, IfOk, IfErr, IfSome, IfNone, All, length};
+ghost use Rattle.std.specs.List.{take_while};
 ghost use Rattle.cm_names.specs.Name.{begins_name, continues_name, first_bad, IsName, name_fault};
 
 use crate::{MAX_NAME_BYTES, Memory, Plain, Text};
 use std::alloc::{AllocError, Global};
 use std::convert::AsStr;
-use std::fmt;
 use std::marker::Model;
+use std::{fmt, str};
 use thiserror::Error;
 
 /// Why a text is no name. The first that holds, in this order.
@@ -115,7 +116,56 @@ fn bad_place(text: &[u8]) -> Option<usize>
     }
 }
 
+/// How many bytes in front may stand in a name after the first one.
+fn name_bytes(rest: &[u8]) -> usize
+    ensures { result ≡ length (take_while continues_name rest.now) }
+{
+    rest.iter().take_while(|b| continues(**b)).count()
+}
+
+/// The text of these bytes, which are a name.
+fn name_text(bytes: &[u8]) -> &str
+    requires { IsName bytes.now }
+    ensures { result.now ≡ bytes.now }
+{
+    // The bytes of a name are ASCII.
+    unsafe { str::from_utf8_unchecked(bytes) }
+}
+
+/// The name that the bytes begin with, up to the first byte that may not stand in one, and what stands
+/// behind it. `None` says nothing of them; it comes where they begin with no name, and where more than 255
+/// bytes would be one.
+fn cut_name(bytes: &[u8]) -> Option<(&str, &[u8])>
+    ensures { IfSome result (λ cut. IsName cut.0.now × (bytes.now ≡ cut.0.now ++ cut.1.now)) }
+{
+    let [first, rest @ ..] = bytes else {
+        return None;
+    };
+    if !begins(*first) {
+        return None;
+    }
+    let count = name_bytes(rest) + 1;
+    if count > MAX_NAME_BYTES {
+        return None;
+    }
+    Some((name_text(&bytes[..count]), &bytes[count..]))
+}
+
 impl Name {
+    /// The name that the bytes begin with, up to the first byte that may not stand in one, and what stands
+    /// behind it. `None` says nothing of them; it comes where they begin with no name, and where more than
+    /// 255 bytes would be one. `Err(Memory)` comes where memory runs out.
+    pub fn take_prefix(alloc: Global, bytes: &[u8]) -> Result<Option<(Name, &[u8])>, Memory>
+        ensures { IfOk result (λ found. IfSome found (λ cut.
+            IsName cut.0 × (bytes.now ≡ cut.0 ++ cut.1.now))) }
+    {
+        let Some((prefix, behind)) = cut_name(bytes) else {
+            return Ok(None);
+        };
+        let text = Text::from_str(alloc, prefix)?;
+        Ok(Some((Name { text }, behind)))
+    }
+
     /// The name with the bytes of `text`, or the first fault of the text, in this order:
     ///
     /// - `Empty` where it has no byte;

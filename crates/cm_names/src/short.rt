@@ -37,6 +37,20 @@ impl Model for Short {
 }
 
 impl Short {
+    /// The bytes of the text.
+    pub(crate) fn of(text: &str) -> Short
+        requires { length text.now ≤ 14 }
+        ensures { result.bytes ≡ text.now }
+    {
+        let mut room = [0; MAX_SHORT_BYTES];
+        let count = text.len();
+        room[..count].copy_from_slice(text.as_bytes());
+        Short {
+            room,
+            count: count as u8,
+        }
+    }
+
     /// The bytes of both, one after the other.
     pub(crate) fn join(prefix: &str, back: &str) -> Short
         requires { length prefix.now + length back.now ≤ 14 }

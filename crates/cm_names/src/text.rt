@@ -70,6 +70,17 @@ impl Stored {
         }
     }
 
+    /// A place for the bytes of the text, which takes memory where they are more than 14. `Err(Memory)`
+    /// comes where memory runs out.
+    fn of(alloc: Global, text: &str) -> Result<Stored, Memory>
+        ensures { IfOk result (λ made. stored_bytes made ≡ text.now) }
+    {
+        if text.len() <= MAX_SHORT_BYTES {
+            return Ok(Stored::Inline(Short::of(text)));
+        }
+        Stored::join(alloc, text, "")
+    }
+
     /// A place for the bytes of `prefix` and those of `back` after them, which takes memory where
     /// they are more than 14. `Err(Memory)` comes where memory runs out.
     fn join(alloc: Global, prefix: &str, back: &str) -> Result<Stored, Memory>
@@ -97,7 +108,7 @@ impl Stored {
         ensures { IfOk result (λ made. stored_bytes made ≡ string_bytes text) }
     {
         if text.len() <= MAX_SMALL_BYTES {
-            return Stored::join(*text.allocator(), text.as_str(), "");
+            return Stored::of(*text.allocator(), text.as_str());
         }
         Ok(Stored::Large(Arc::new(*text.allocator(), text)?))
     }
@@ -110,7 +121,7 @@ impl Text {
     {
         Text {
             alloc,
-            stored: Stored::Inline(Short::join("", "")),
+            stored: Stored::Inline(Short::of("")),
         }
     }
 
@@ -118,7 +129,7 @@ impl Text {
     pub fn from_str(alloc: Global, text: &str) -> Result<Text, Memory>
         ensures { IfOk result (λ made. made ≡ text.now) }
     {
-        let stored = Stored::join(alloc, text, "")?;
+        let stored = Stored::of(alloc, text)?;
         Ok(Text { alloc, stored })
     }
 

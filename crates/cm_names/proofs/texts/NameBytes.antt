@@ -1,11 +1,19 @@
--- A name that bytes begin with.
-use Rattle.std.proofs.Common.{◌≡◌, ℕ, suc, ◌+◌, ◌-◌, ◌≤◌, List, [], ◌∷◌, ◌++◌, length, take, drop, get_or, IsTrue, sym, ap, subst, ◌∙◌, arith}
+-- Bytes that a name that others follow is made of.
+use Rattle.std.proofs.Common.{◌≡◌, ℕ, zero, suc, ◌+◌, ◌<◌, ◌≤◌, List, [], ◌∷◌, ◌++◌, ◌-◌, length, take, drop, get_or, Bool, true, All, IsTrue, sym, ap, subst, ◌∙◌, arith, rules}
 use Rattle.std.specs.List.{prefix_len, take_while}
-use Rattle.std.proofs.lemmas.List.{length-take-le, length-drop, take_all, take-append-drop}
+use Rattle.std.specs.Str.{IsUtf8, IsAscii}
+use Rattle.std.proofs.lemmas.Str.{IsUtf8-from_ascii}
+use Rattle.std.proofs.lemmas.List.{length-take-le, length-drop, get_or-take, take_all, take-append-drop}
 use Rattle.std.proofs.lemmas.List.Folds.{length-prefix_len}
-use Rattle.std.proofs.lemmas.List.Sums.{prefix_len-le-length}
+use Rattle.std.proofs.lemmas.List.Sums.{prefix_len-le-length, prefix_len_passes}
 use Rattle.cm_names.specs.Name.{IsName, begins_name, continues_name}
-use Rattle.cm_command.proofs.bytes.Runs.{run_passes}
+
+-- the bytes up to the first that fails a test pass it
+run_passes : (test : ℕ → Bool) (w : List ℕ) (i : ℕ) → i ≤ prefix_len test w → All (λ b. IsTrue (test b)) (take i w)
+run_passes test w i le k d lt =
+    let bound : prefix_len test w ≤ length w = prefix_len-le-length test w in
+    let len : length (take i w) ≡ i = length-take-le i w (omega arith) in
+    subst (λ b. test b ≡ true) (sym (get_or-take i w k d (omega arith))) (prefix_len_passes test w k d (omega arith))
 
 -- what begins as a name does, with bytes of a name behind it, is one
 begun_name : (b : ℕ) (bs : List ℕ) (n : ℕ) → IsTrue (begins_name b) → n ≡ length (take_while continues_name bs) → n + 1 ≤ 255
@@ -39,3 +47,26 @@ cut_prefix t n some count =
     let same : n ≡ prefix_len continues_name rest = count ∙ length-prefix_len continues_name rest in
     let fits : n + 1 ≤ length t = omega arith in
     sym (ap (λ r. take (n + 1) t ++ r) (to_end t (n + 1) fits) ∙ take-append-drop (n + 1) t)
+
+begins_low : (b : ℕ) → IsTrue (begins_name b) → b < 128
+begins_low b h = grind (arith, rules)
+
+continues_low : (b : ℕ) → IsTrue (continues_name b) → b < 128
+continues_low b h = grind (arith, rules)
+
+all_low : (bs : List ℕ) → All (λ c. IsTrue (continues_name c)) bs → All (λ b. b < 128) bs
+all_low bs h k d lt = continues_low _ (h k d lt)
+
+ascii_at : (t : List ℕ) → All (λ b. b < 128) t → IsAscii t
+ascii_at [] h i = omega arith
+ascii_at (b ∷ bs) h zero = h 0 0 (omega arith)
+ascii_at (b ∷ bs) h (suc i) = ascii_at bs (λ k d lt. h (suc k) d (omega arith)) i
+
+name_ascii : (b : ℕ) (bs : List ℕ) → IsTrue (begins_name b) → All (λ c. IsTrue (continues_name c)) bs → IsAscii (b ∷ bs)
+name_ascii b bs begins rest zero = begins_low b begins
+name_ascii b bs begins rest (suc i) = ascii_at bs (all_low bs rest) i
+
+-- the bytes of a name are a text
+pub name_utf8 : (t : List ℕ) → IsName t → IsUtf8 t
+name_utf8 [] h = absurd h
+name_utf8 (b ∷ bs) h = IsUtf8-from_ascii (b ∷ bs) (name_ascii b bs h.1 h.2)
