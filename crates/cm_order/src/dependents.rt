@@ -92,7 +92,9 @@ impl Dependents {
     /// Where the edges of a node begin among those by who depends. A node's stand together, and nodes were
     /// looked at by increasing incarnations. No clause says so: who reads there tests whose edge it is.
     pub(crate) fn first_edge(&self, node: u64) -> usize {
-        self.edges.sources.partition_point(|edge| edge.client < node)
+        self.edges
+            .sources
+            .partition_point(|edge| edge.client < node)
     }
 
     /// The child in whose list a node was put by the edge at a place, if it is an edge of that node.
