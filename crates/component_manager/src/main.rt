@@ -9,7 +9,9 @@
 
 mod ending;
 
-ghost use Rattle.std.specs.Prelude.{◌≡◌, ◌⊎◌, IfOk, length};
+ghost use Rattle.std.specs.Prelude.{◌≡◌, ◌⊎◌, ℕ, List as Seq, IfOk, length};
+ghost use Rattle.cm_keep.specs.declared.service.Unkept.TheVariants as unkept;
+ghost use Rattle.cm_program.specs.Written.{IsSaid, want_line};
 
 use cm_book::Book;
 use cm_gate::{FolderGates, Runner};
@@ -141,7 +143,11 @@ fn keep_journal(
 /// Says on the error stream why a journal isn't kept. The program ends so, unless its run had a status of
 /// its own.
 fn say<R: Threads + Wait + Sync, E: Sink>(rt: &R, err: &mut E, why: &Unkept) -> ProgramStatus
-    ensures { (result ≡ 4) ⊎ (result ≡ 6) }
+    ensures status { (result ≡ 4) ⊎ (result ≡ 6) }
+    ensures line { (line : Seq ℕ) → why.now ≡ unkept.Said line → (result ≡ 4)
+        × IsSaid E.written E.faults err.old err.new line }
+    ensures memory { why.now ≡ unkept.Memory → (result ≡ 6)
+        × IsSaid E.written E.faults err.old err.new want_line }
 {
     match why {
         Unkept::Said(line) => ProgramStatus::refused(rt, err, line.as_str().as_bytes()),
