@@ -1,18 +1,11 @@
 use Rattle.std.proofs.Common.{◌≡◌, ℕ, List, Bool, true, false, ◌&&◌, ◌||◌, true≢false, Option, Some, None, refl, sym, ◌∙◌, ap, IsTrue, inl, inr, ◌⊎◌, bytes_eq}
 use Rattle.std.specs.Option.{option_eq}
 use Rattle.std.specs.Cmp.Lexicographic.{bytes_decides}
+use Rattle.std.specs.Cmp.{first_so, second_so}
 use Rattle.cm_names.specs.declared.child.ChildName.{ChildName}
 use Rattle.cm_decl.specs.declared.node.Node.{Node}
 use Rattle.cm_decl.specs.declared.node.Node.TheVariants.{Own, Child}
 use Rattle.cm_decl.specs.Same.{same_child, same_node}
-
-pub and_first : (p q : Bool) → IsTrue (p && q) → IsTrue p
-and_first true q h = refl
-and_first false q h = absurd (true≢false (sym h))
-
-pub and_second : (p q : Bool) → IsTrue (p && q) → IsTrue q
-and_second true q h = h
-and_second false q h = absurd (true≢false (sym h))
 
 pub or_split : (p q : Bool) → IsTrue (p || q) → IsTrue p ⊎ IsTrue q
 or_split true q h = inl refl
@@ -39,8 +32,8 @@ parts_same None None m n h = ap (named None) ((bytes_decides m n).0 h)
 parts_same None (Some d) m n h = never h
 parts_same (Some c) None m n h = never h
 parts_same (Some c) (Some d) m n h =
-    let colls : c ≡ d = (bytes_decides c d).0 (and_first (bytes_eq c d) (bytes_eq m n) h) in
-    let names : m ≡ n = (bytes_decides m n).0 (and_second (bytes_eq c d) (bytes_eq m n) h) in
+    let colls : c ≡ d = (bytes_decides c d).0 (first_so (bytes_eq c d) (bytes_eq m n) h) in
+    let names : m ≡ n = (bytes_decides m n).0 (second_so (bytes_eq c d) (bytes_eq m n) h) in
     ap (λ z. named (Some z) m) colls ∙ ap (named (Some d)) names
 
 -- what passes the test of sameness is the same

@@ -8,8 +8,8 @@ use Rattle.std.proofs.lemmas.List.{take-append-drop, drop-drop, drop-take, lengt
 use Rattle.std.proofs.lemmas.List.Elements.{All-append, All-from_get_or}
 use Rattle.std.proofs.lemmas.List.Quantifiers.{position-Some}
 use Rattle.std.proofs.lemmas.List.Sums.{fails_before_first}
-use Rattle.std.specs.Io.KnownBytes.{Appends, Consumes, IsAtEnd, Keeps, prepend_known}
-use Rattle.std.proofs.KnownBytes.{Appends-trans, Consumes-trans, Consumes-kept}
+use Rattle.std.specs.Io.KnownBytes.{Consumes, IsAtEnd, Keeps, prepend_known}
+use Rattle.std.proofs.KnownBytes.{Appends-trans, Consumes-trans, Consumes-kept, Appends-kept}
 use Rattle.cm_io.specs.declared.lines.Next.{Next}
 use Rattle.cm_io.specs.declared.lines.Next.TheVariants as next
 use Rattle.cm_io.specs.Outside.{AsSource}
@@ -125,13 +125,6 @@ lines-last (byte ∷ next ∷ line) h lt =
 -- `line` is the bytes `gone`, or both are too long
 abbrev pub Carries : List ℕ → List ℕ → Type 0
 Carries line gone = (line ≡ gone) ⊎ ((65536 < length line) × (65536 < length gone))
-
--- bytes that are put behind others, and then kept
-appends-kept : (a b c : Option (List ℕ)) (bs : List ℕ) → Appends a b bs → Keeps b c → Appends a c bs
-appends-kept None b c bs grown kept = tt
-appends-kept (Some x) None c bs grown kept = absurd grown
-appends-kept (Some x) (Some y) None bs grown kept = absurd kept
-appends-kept (Some x) (Some y) (Some z) bs grown kept = kept ∙ grown
 
 -- ---- the order of reads
 
@@ -265,7 +258,7 @@ pub passed-kept : (old now then : AsSource) (first o after : Option (List Move))
 passed-kept old now then first o after over held kept line not p unbroken left given came = record {
   given = p.given;
   gone = p.gone;
-  gave = (Consumes-kept old.left now.left then.left p.given p.gave.0 left, appends-kept old.given now.given then.given p.given p.gave.1 given);
+  gave = (Consumes-kept old.left now.left then.left p.given p.gave.0 left, Appends-kept old.given now.given then.given p.given p.gave.1 given);
   still = λ e. absurd (true≢false (sym e ∙ not));
   moved = p.moved;
   unbroken = p.unbroken;

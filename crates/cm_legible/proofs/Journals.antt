@@ -2,8 +2,8 @@
 use Rattle.std.proofs.Common.{◌≡◌, ℕ, ◌+◌, ◌-◌, ◌<◌, ◌≤◌, ◌^◌, List, [], ◌∷◌, ◌++◌, map, flat_map, length, true, false, not, ◌&&◌, ◌==◌, nat_le, Option, Some, None, All, IsTrue, decimal, refl, sym, ap, subst, ◌∙◌, arith, rules, codes, append_assoc, append-nil, length-append}
 use Rattle.std.specs.Prelude.{IfSome}
 use Rattle.std.specs.List.{list_all}
-use Rattle.std.proofs.lemmas.Bool.{and_parts}
-use Rattle.std.proofs.lemmas.List.Elements.{All-cons, All-append}
+use Rattle.std.proofs.lemmas.Bool.{and_parts, and_from}
+use Rattle.std.proofs.lemmas.List.Elements.{All-cons, All-append, All-tail, All-nil}
 use Rattle.cm_names.specs.Name.{IsName}
 use Rattle.cm_names.specs.Path.{is_path, service_path}
 use Rattle.cm_names.specs.Urls.{is_url_byte, is_url_text}
@@ -37,8 +37,8 @@ use Rattle.cm_audit.specs.Journal.{frame_of, Stage, before, head as heads, told,
 use Rattle.cm_audit.specs.Laws.{IsLegibleHistory, JournalsAreLegal}
 use Rattle.cm_legible.specs.Frames.{with_room}
 use Rattle.cm_legible.specs.Tellable.{IsTellable, IsTellableDecl, IsTellableGive, IsTellableFinish, IsTellableFrame, IsNamedReply}
-use Rattle.cm_legible.proofs.Lists.{head, tail, none, map-All}
-use Rattle.cm_legible.proofs.Paths.{and_both, path_is_long, service_is_long}
+use Rattle.cm_legible.proofs.Lists.{head, map-All}
+use Rattle.cm_legible.proofs.Paths.{path_is_long, service_is_long}
 use Rattle.cm_legible.proofs.Json.{OneLine, is_inner, one_line-append, decimal_line}
 use Rattle.cm_legible.proofs.Texts.{IsTold, reply_told}
 use Rattle.cm_legible.proofs.Events.{event_line, builtin_one_line, url, url_bytes}
@@ -50,8 +50,8 @@ use Rattle.cm_legible.proofs.Back.{entries_are_read_back}
 
 url_is : (t : TextBytes) → IsUrlText t → IsTrue (is_url_text t)
 url_is t h =
-    and_both (not (length t == 0) && nat_le (length t) 4096) (list_all is_url_byte t)
-    (and_both (not (length t == 0)) (nat_le (length t) 4096) (some (length t) h.some) (few (length t) h.short)) (url_bytes t h.bytes)
+    and_from (not (length t == 0) && nat_le (length t) 4096) (list_all is_url_byte t)
+    (and_from (not (length t == 0)) (nat_le (length t) 4096) (some (length t) h.some) (few (length t) h.short)) (url_bytes t h.bytes)
   where
     some : (n : ℕ) → 1 ≤ n → not (n == 0) ≡ true
     some n e = grind (arith, rules)
@@ -100,7 +100,7 @@ frame_is f h = record { root = url_is f.root h.root; builtins = λ k x lt. (let 
 -- ---- lines
 
 pub lacks : (t : TextBytes) → OneLine t → Lacks 10 t
-lacks [] h = none (λ b. (b == 10) ≡ false)
+lacks [] h = All-nil (λ b. (b == 10) ≡ false)
 lacks (b ∷ bs) h =
     let both = and_parts (is_inner b) (list_all is_inner bs) h in All-cons (λ b. (b == 10) ≡ false) b bs (byte b both.0) (lacks bs both.1)
   where
@@ -110,7 +110,7 @@ lacks (b ∷ bs) h =
 lines_back : (ts : List TextBytes) → All (Lacks 10) ts → lines_of (flat_map line ts) ≡ ts
 lines_back [] h = refl
 lines_back (t ∷ ts) h =
-    ap lines_of (append_assoc t (10 ∷ []) (flat_map line ts)) ∙ lines_at t (flat_map line ts) (head (Lacks 10) t ts h) ∙ ap (λ xs. t ∷ xs) (lines_back ts (tail (Lacks 10) t ts h))
+    ap lines_of (append_assoc t (10 ∷ []) (flat_map line ts)) ∙ lines_at t (flat_map line ts) (head (Lacks 10) t ts h) ∙ ap (λ xs. t ∷ xs) (lines_back ts (All-tail (Lacks 10) t ts h))
 
 entry_lines : ℕ → List Entry → List TextBytes
 entry_lines n [] = []
@@ -150,14 +150,14 @@ reads-append s m u (x ∷ xs) ys h k = (h.0, h.1, reads-append h.0 m u xs ys h.2
 
 skipped : (ts : List TextBytes) → All (λ (t : TextBytes). t ≡ codes "journal" → ⊥) ts → ReadsAll before ts before
 skipped [] h = refl
-skipped (t ∷ ts) h = (before, Reads.skips (head (λ (t : TextBytes). t ≡ codes "journal" → ⊥) t ts h), skipped ts (tail (λ (t : TextBytes). t ≡ codes "journal" → ⊥) t ts h))
+skipped (t ∷ ts) h = (before, Reads.skips (head (λ (t : TextBytes). t ≡ codes "journal" → ⊥) t ts h), skipped ts (All-tail (λ (t : TextBytes). t ≡ codes "journal" → ⊥) t ts h))
 
 builtins_read : (done bs : List Builtin) → All IsLegibleBuiltin bs → ReadsAll (heads done) (map builtin_text bs) (heads (done ++ bs))
 builtins_read done [] h = ap heads (sym (append-nil done))
 builtins_read done (b ∷ bs) h = (
   heads (done ++ b ∷ []),
   Reads.builtin b (head IsLegibleBuiltin b bs h),
-  subst (λ x. ReadsAll (heads (done ++ b ∷ [])) (map builtin_text bs) (heads x)) (append_assoc done (b ∷ []) bs) (builtins_read (done ++ b ∷ []) bs (tail IsLegibleBuiltin b bs h)),
+  subst (λ x. ReadsAll (heads (done ++ b ∷ [])) (map builtin_text bs) (heads x)) (append_assoc done (b ∷ []) bs) (builtins_read (done ++ b ∷ []) bs (All-tail IsLegibleBuiltin b bs h)),
 )
 
 entries_read : (f : Frame) (done es : List Entry) → Legal (start f) (done ++ es) → All IsLegibleEntry es → length (done ++ es) < 2 ^ 64 → ReadsAll (told f done) (entry_lines (length done + 1) es) (told f (done ++ es))
@@ -172,22 +172,22 @@ entries_read f done (e ∷ es) legal h few =
       Reads.entry e (entries_are_read_back (length done + 1) e small (head IsLegibleEntry e es h)) step,
       subst (λ x. ReadsAll (told f (done ++ e ∷ [])) (entry_lines (length done + 1 + 1) es) (told f x)) same
           (subst (λ n. ReadsAll (told f (done ++ e ∷ [])) (entry_lines n es) (told f ((done ++ e ∷ []) ++ es))) next
-          (entries_read f (done ++ e ∷ []) es (subst (Legal (start f)) (sym same) legal) (tail IsLegibleEntry e es h) (subst (λ (x : List Entry). length x < 2 ^ 64) (sym same) few))),
+          (entries_read f (done ++ e ∷ []) es (subst (Legal (start f)) (sym same) legal) (All-tail IsLegibleEntry e es h) (subst (λ (x : List Entry). length x < 2 ^ 64) (sym same) few))),
     )
 
 -- ---- the whole
 
 entries_lack : (n : ℕ) (es : List Entry) → All IsLegibleEntry es → All (Lacks 10) (entry_lines n es)
 unfolding entry_lines
-entries_lack n [] h = none (Lacks 10)
+entries_lack n [] h = All-nil (Lacks 10)
 entries_lack n (e ∷ es) h =
     let here : IsLegibleEntry e = head IsLegibleEntry e es h in
     let said : IsTold (replied_text e.reply) = reply_told e.reply here.reply in
     All-cons (Lacks 10) (entry_text n e) (entry_lines (n + 1) es)
     (lacks (entry_text n e)
-    (one_line-append (decimal n) _ (decimal_line n) (and_both true _ refl (one_line-append (decimal e.caller) _ (decimal_line e.caller) (and_both true _ refl
+    (one_line-append (decimal n) _ (decimal_line n) (and_from true _ refl (one_line-append (decimal e.caller) _ (decimal_line e.caller) (and_from true _ refl
     (one_line-append (event_text e.event) _ (event_line e.event here.event).bytes (one_line-append (codes " => ") (replied_text e.reply) refl said.line)))))))
-    (entries_lack (n + 1) es (tail IsLegibleEntry e es h))
+    (entries_lack (n + 1) es (All-tail IsLegibleEntry e es h))
 
 journal_lacks : (f : Frame) (es : List Entry) → IsLegibleFrame f → All IsLegibleEntry es → All (Lacks 10) (journal_lines f es)
 unfolding journal_lines

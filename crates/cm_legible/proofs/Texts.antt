@@ -1,9 +1,10 @@
 -- The texts of replies print on one line, and no word of one is the arrow.
 use Rattle.std.proofs.Common.{◌≡◌, ℕ, zero, suc, ◌<◌, List, [], ◌∷◌, ◌++◌, length, Bool, true, false, ◌&&◌, nat_le, Option, Some, None, All, decimal, refl, sym, ap, subst, ◌∙◌, arith, rules, codes, append_assoc, IsUtf8, IsAscii}
 use Rattle.std.specs.List.{list_all}
-use Rattle.std.proofs.lemmas.Bool.{and_parts}
+use Rattle.std.proofs.lemmas.Bool.{and_parts, and_from}
 use Rattle.std.proofs.lemmas.List.Folds.{list_all-append}
 use Rattle.std.proofs.lemmas.Str.{IsUtf8-from_ascii}
+use Rattle.std.proofs.lemmas.List.Elements.{All-tail}
 use Rattle.cm_names.specs.Child.{child_text}
 use Rattle.cm_names.specs.Moniker.{moniker_text}
 use Rattle.cm_names.specs.declared.moniker.Moniker.{Moniker}
@@ -38,8 +39,7 @@ use Rattle.cm_reply.specs.Routes.{step_word, hop_text, why_word, source_text, ri
 use Rattle.cm_reply.specs.States.{act_word, note_text, outcome_text, incarnation_text, resolved_word, on_word, pending_words, look_text, survey_text, kid_text}
 use Rattle.cm_reply.specs.Replies.{replied_text}
 use Rattle.cm_reply.specs.LegibleInside.{IsOfNames, IsOfName, IsLongPath, IsLegibleProvider, IsLegibleRoute, IsLegibleSurvey, IsLegibleReply}
-use Rattle.cm_legible.proofs.Lists.{head, tail}
-use Rattle.cm_legible.proofs.Paths.{and_both}
+use Rattle.cm_legible.proofs.Lists.{head}
 use Rattle.cm_legible.proofs.Json.{OneLine, is_inner, one_line-append}
 use Rattle.cm_legible.proofs.Words.{Clean, is_clean, clean-append, decimal_clean, name_clean, child_clean, moniker_clean, rights_clean, clean_line, clean_arrowless, path_line, path_arrowless, Arrowless, arrowless-append}
 
@@ -65,11 +65,11 @@ small_byte b h = grind (arith, rules)
 
 clean_prints : (t : List ℕ) → Clean t → Prints t
 clean_prints [] h = refl
-clean_prints (b ∷ bs) h = let both = and_parts (is_clean b) (list_all is_clean bs) h in and_both (is_print b) (list_all is_print bs) (print_byte b both.0) (clean_prints bs both.1)
+clean_prints (b ∷ bs) h = let both = and_parts (is_clean b) (list_all is_clean bs) h in and_from (is_print b) (list_all is_print bs) (print_byte b both.0) (clean_prints bs both.1)
 
 url_prints : (t : List ℕ) → list_all is_url_byte t ≡ true → Prints t
 url_prints [] h = refl
-url_prints (b ∷ bs) h = let both = and_parts (is_url_byte b) (list_all is_url_byte bs) h in and_both (is_print b) (list_all is_print bs) (url_byte b both.0) (url_prints bs both.1)
+url_prints (b ∷ bs) h = let both = and_parts (is_url_byte b) (list_all is_url_byte bs) h in and_from (is_print b) (list_all is_print bs) (url_byte b both.0) (url_prints bs both.1)
 
 ascii : (t : List ℕ) → Prints t → IsAscii t
 ascii [] h i = omega arith
@@ -77,7 +77,7 @@ ascii (b ∷ bs) h zero = small_byte b (and_parts (is_print b) (list_all is_prin
 ascii (b ∷ bs) h (suc i) = ascii bs (and_parts (is_print b) (list_all is_print bs) h).1 i
 
 path_prints : (t : List ℕ) → IsLongPath t → Prints t
-path_prints t h = subst Prints (sym h.1) (and_both (is_print 47) (list_all is_print h.0) (url_byte 47 refl) (url_prints h.0 h.2))
+path_prints t h = subst Prints (sym h.1) (and_from (is_print 47) (list_all is_print h.0) (url_byte 47 refl) (url_prints h.0 h.2))
 
 -- ---- a text that is told
 
@@ -93,10 +93,10 @@ told_raw t h = record { line = clean_line t h; arrowless = clean_arrowless t h; 
 told_path : (a p b : TextBytes) → Clean a → IsLongPath p → Clean b → IsTold (a ++ 32 ∷ (p ++ 32 ∷ b))
 unfolding is_print
 told_path a p b h k j = record {
-  line = one_line-append a (32 ∷ (p ++ 32 ∷ b)) (clean_line a h) (and_both true (list_all is_inner (p ++ 32 ∷ b)) refl (one_line-append p (32 ∷ b) (path_line p k) (and_both true (list_all is_inner b) refl (clean_line b j))));
+  line = one_line-append a (32 ∷ (p ++ 32 ∷ b)) (clean_line a h) (and_from true (list_all is_inner (p ++ 32 ∷ b)) refl (one_line-append p (32 ∷ b) (path_line p k) (and_from true (list_all is_inner b) refl (clean_line b j))));
   arrowless = arrowless-append a (p ++ 32 ∷ b) (clean_arrowless a h) (arrowless-append p b (path_arrowless p k) (clean_arrowless b j));
-  utf8 = IsUtf8-from_ascii _ (ascii _ (list_all-append is_print a (32 ∷ (p ++ 32 ∷ b)) ∙ and_both (list_all is_print a) _ (clean_prints a h)
-      (and_both true _ refl (list_all-append is_print p (32 ∷ b) ∙ and_both (list_all is_print p) _ (path_prints p k) (and_both true (list_all is_print b) refl (clean_prints b j))))));
+  utf8 = IsUtf8-from_ascii _ (ascii _ (list_all-append is_print a (32 ∷ (p ++ 32 ∷ b)) ∙ and_from (list_all is_print a) _ (clean_prints a h)
+      (and_from true _ refl (list_all-append is_print p (32 ∷ b) ∙ and_from (list_all is_print p) _ (path_prints p k) (and_from true (list_all is_print b) refl (clean_prints b j))))));
 }
 
 -- a clean text, by its parts
@@ -184,15 +184,15 @@ node_clear (node.Child c) h = lit (child_text c) (child_clean c h)
 
 pub behind_clear : {A : Type 0} (P : A → Type 0) (mark : TextBytes) (text : A → TextBytes) → Clear mark → ((x : A) → P x → Clear (text x)) → (xs : List A) → All P xs → Clear (each_behind mark text xs)
 behind_clear P mark text m each [] h = lit [] refl
-behind_clear P mark text m each (x ∷ xs) h = join (join m (each x (head P x xs h))) (behind_clear P mark text m each xs (tail P x xs h))
+behind_clear P mark text m each (x ∷ xs) h = join (join m (each x (head P x xs h))) (behind_clear P mark text m each xs (All-tail P x xs h))
 
 pub joined_clear : {A : Type 0} (P : A → Type 0) (mark : TextBytes) (text : A → TextBytes) → Clear mark → ((x : A) → P x → Clear (text x)) → (xs : List A) → All P xs → Clear (joined_by mark text xs)
 joined_clear P mark text m each [] h = lit [] refl
-joined_clear P mark text m each (x ∷ xs) h = join (each x (head P x xs h)) (behind_clear P mark text m each xs (tail P x xs h))
+joined_clear P mark text m each (x ∷ xs) h = join (each x (head P x xs h)) (behind_clear P mark text m each xs (All-tail P x xs h))
 
 bracketed_clear : {A : Type 0} (P : A → Type 0) (text : A → TextBytes) → ((x : A) → P x → Clear (text x)) → (xs : List A) → All P xs → Clear (bracketed text xs)
 bracketed_clear P text each [] h = lit [] refl
-bracketed_clear P text each (x ∷ xs) h = join (join (lit (codes " [") refl) (join (each x (head P x xs h)) (lit (codes "]") refl))) (bracketed_clear P text each xs (tail P x xs h))
+bracketed_clear P text each (x ∷ xs) h = join (join (lit (codes " [") refl) (join (each x (head P x xs h)) (lit (codes "]") refl))) (bracketed_clear P text each xs (All-tail P x xs h))
 
 resolved_raw : (b : Bool) → Clean (resolved_word b)
 resolved_raw true = refl

@@ -1,7 +1,7 @@
 -- Entries leave a world that can be told of, where their events can.
 use Rattle.std.proofs.Common.{◌≡◌, ℕ, ◌+◌, List, [], ◌∷◌, Bool, true, false, cond, not, ◌&&◌, ◌==◌, Option, Some, None, All, IsTrue, sym, subst}
 use Rattle.std.specs.Prelude.{IfSome}
-use Rattle.std.proofs.lemmas.List.Elements.{All-cons, All-append, All-filter}
+use Rattle.std.proofs.lemmas.List.Elements.{All-cons, All-append, All-filter, All-tail, All-nil}
 use Rattle.cm_names.specs.Moniker.{IsChildName}
 use Rattle.cm_names.specs.Urls.{is_url_text}
 use Rattle.cm_decl.specs.declared.decl.Decl.{Decl}
@@ -27,7 +27,7 @@ use Rattle.cm_world.specs.Create.{created_row}
 use Rattle.cm_world.specs.Expiring.{expired, goes_with, is_stopped}
 use Rattle.cm_world.specs.After.{moved, after, with_end_of}
 use Rattle.cm_legible.specs.Tellable.{IsTellable, IsTellableFinish, IsTellableDecl, IsTellableKid, IsTellableGive, IsTellableRow, IsTellableWorld, IsTellableFrame}
-use Rattle.cm_legible.proofs.Lists.{head, tail, none, edit-All, map-All}
+use Rattle.cm_legible.proofs.Lists.{head, edit-All, map-All}
 
 abbrev Rows : List Row → Type 0
 Rows rows = All IsTellableRow rows
@@ -76,12 +76,12 @@ leaves_end _ r h = leaves_pending None r h
 -- ---- new rows
 
 kid_rows : (p next : ℕ) (ks : List Child) → All IsTellableKid ks → Rows (child_rows p next ks)
-kid_rows p next [] h = none IsTellableRow
+kid_rows p next [] h = All-nil IsTellableRow
 kid_rows p next (k ∷ ks) h =
     let kid : IsTellableKid k = head IsTellableKid k ks h in
     All-cons IsTellableRow (child_row p next k) (child_rows p (next + 1) ks)
-    (record { name = (kid.name, tt); url = kid.url; decl = tt; gives = none IsTellableGive })
-    (kid_rows p (next + 1) ks (tail IsTellableKid k ks h))
+    (record { name = (kid.name, tt); url = kid.url; decl = tt; gives = All-nil IsTellableGive })
+    (kid_rows p (next + 1) ks (All-tail IsTellableKid k ks h))
 
 resolves_rows : (i next : ℕ) (url : List ℕ) (d : Decl) (o : Outcome) (rows : List Row) → IsTellableDecl d → Rows rows → Rows (rows_by i next (finish.Resolved url d) o rows)
 resolves_rows i next url d outcome.Resolved rows told h =
@@ -124,7 +124,7 @@ moved_tellable w c (End a f) (reply.Ended o) told h = end_tellable w a f o (act_
 moved_tellable w c (Await a) (reply.Ended o) told h = record { rows = h.rows; builtins = h.builtins }
 moved_tellable w c (Create p coll name url gives) (reply.Created i) told h = record {
   rows = All-append IsTellableRow w.rows (created_row i p coll name url gives ∷ []) h.rows
-      (All-cons IsTellableRow (created_row i p coll name url gives) [] (record { name = (told.1, told.0); url = told.2; decl = tt; gives = told.3 }) (none IsTellableRow));
+      (All-cons IsTellableRow (created_row i p coll name url gives) [] (record { name = (told.1, told.0); url = told.2; decl = tt; gives = told.3 }) (All-nil IsTellableRow));
   builtins = h.builtins;
 }
 moved_tellable w c (Mark doom i) reply.Marked told h = record { rows = change_rows i (cond doom set_doomed set_closing) w.rows (leaves_mark doom) h.rows; builtins = h.builtins }
@@ -144,6 +144,6 @@ after_tellable w e told h =
 
 pub start_tellable : (f : Frame) → IsTellableFrame f → IsTellableWorld (start f)
 start_tellable f h = record {
-  rows = All-cons IsTellableRow (root_row f.root) [] (record { name = tt; url = h.root; decl = tt; gives = none IsTellableGive }) (none IsTellableRow);
+  rows = All-cons IsTellableRow (root_row f.root) [] (record { name = tt; url = h.root; decl = tt; gives = All-nil IsTellableGive }) (All-nil IsTellableRow);
   builtins = h.builtins;
 }

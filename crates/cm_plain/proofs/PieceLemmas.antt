@@ -11,6 +11,7 @@ use Rattle.json.specs.Lex.{Lexeme, token, class, operator, operator_lexeme, lex,
 use Rattle.json.specs.Lex as of_lex
 use Rattle.serde_json.specs.Data.{Data}
 use Rattle.serde_json.specs.Read.{of_json}
+use Rattle.std.proofs.lemmas.List.{nil_from_length}
 use Rattle.cm_text.specs.Bytes.{is_mark, is_space, is_quote, begins_with}
 use Rattle.cm_text.specs.Token.{Char, plain, taken, Token, mark, quoted, word, Piece, space, line_comment}
 use Rattle.cm_text.specs.Token.{block_comment, char_bytes, token_bytes, piece_bytes, tokens_of}
@@ -125,10 +126,6 @@ lexed (block_comment bs ∷ ps) c d e = absurd (cc)
 
 -- ---- the spellings
 
-not_parts : (b : Bool) → not b ≡ true → b ≡ false
-not_parts true h = absurd (cc)
-not_parts false h = refl
-
 -- no closing mark is next behind a comma
 no_closing : (ps : List Piece) (c d : Bool) → c ≡ true → comma_behind_all c ps ≡ Some d
     → is_mark_of is_closing (head_of (tokens_of ps)) ≡ false
@@ -137,7 +134,7 @@ no_closing (piece (mark b) ∷ ps) c d t e =
     let s = then_some (λ g. comma_behind_all g ps) (comma_behind c (piece (mark b))) d e in
     let h = some_if (is_mark b && not (c && is_closing b)) (is_comma b) s.0 s.1 in
     let m = and_parts (is_mark b) (not (c && is_closing b)) h.0 in
-    sym (ap (λ g. g && is_closing b) t) ∙ not_parts (c && is_closing b) m.1
+    sym (ap (λ g. g && is_closing b) t) ∙ not-true (c && is_closing b) m.1
 no_closing (piece (quoted q cs) ∷ ps) c d t e = refl
 no_closing (piece (word bs) ∷ ps) c d t e = absurd (cc)
 no_closing (space b ∷ ps) c d t e =
@@ -276,17 +273,13 @@ passes_string c text inside s rest o e h =
 
 -- ---- the whole text
 
-pub nothing_behind : (xs : List ℕ) → length xs ≡ 0 → xs ≡ []
-nothing_behind [] h = refl
-nothing_behind (x ∷ xs) h = absurd (omega arith)
-
 abbrev pub of_lexemes : List Lexeme → Option Data
 of_lexemes ls = option_and_then of_json (option_and_then (λ p. if_last p.0 p.1) (value 127 (punctuate fresh ls)))
 
 pub reads_as_json : (text rest : List ℕ) (c : Bool) → PassesPieces false text c rest → length rest ≡ 0 → ReadsAsJson text
 reads_as_json text rest c all none =
     let ps = all.passed in
-    let bytes : bytes_of ps ++ [] ≡ text = ap (λ l. bytes_of ps ++ l) (sym (nothing_behind rest none)) ∙ all.bytes in
+    let bytes : bytes_of ps ++ [] ≡ text = ap (λ l. bytes_of ps ++ l) (sym (nil_from_length rest none)) ∙ all.bytes in
     let has : AreTokensOf text (tokens_of ps) = record {
       ps = ps;
       whole = record { bytes = bytes; pieces = are_all_pieces ps false c all.comma };

@@ -5,8 +5,7 @@ use Rattle.std.proofs.lemmas.Str.{IsCharBoundary-after_ascii}
 use Rattle.std.proofs.Common.{Bool, true, false, cond, ◌||◌, ◌==◌, nat_lt, Some, Vec, Bor, Global}
 use Rattle.std.proofs.Common.{take_while, refl, sym, ap, ap₂, ◌∙◌, subst, arith, rules}
 use Rattle.std.proofs.lemmas.Bool.{and_parts, or_parts, not-true, eqb-true, eqb-false, ltb-false}
-use Rattle.std.proofs.lemmas.List.{take-append-drop, length-drop}
-use Rattle.std.proofs.Math.Seq.{take-length}
+use Rattle.std.proofs.lemmas.List.{take-append-drop, nil_from_length, take_rest}
 use Rattle.std.proofs.lemmas.List.Sums.{take_while-cons}
 use Rattle.std.specs.List.{list_all}
 use Rattle.json.specs.Token.{Token, key, end_array, end_object, begin_array, begin_object}
@@ -53,12 +52,9 @@ pub at_space : (b : ℕ) (t : List ℕ) → is_space b ≡ true → lex between 
 unfolding lex
 at_space b t h = ap (λ k. lex_byte between k b t (λ m. lex m t)) (space_class b h)
 
-pub unslice : (n : ℕ) (t : List ℕ) → take (length t - n) (drop n t) ≡ drop n t
-unslice n t = ap (λ k. take k (drop n t)) (sym (length-drop n t)) ∙ take-length (drop n t)
-
 pub first_of : (c : ℕ) (t : List ℕ) → begins c t ≡ true → t ≡ c ∷ take (length t - 1) (drop 1 t)
 first_of c [] h = absurd (cc)
-first_of c (x ∷ xs) h = ap₂ (λ a b. a ∷ b) (eqb-true x c h) (sym (unslice 1 (x ∷ xs)))
+first_of c (x ∷ xs) h = ap₂ (λ a b. a ∷ b) (eqb-true x c h) (sym (take_rest (x ∷ xs) 1))
 
 pub space_passed : (t rest : List ℕ) → begins_with is_space t ≡ true → rest ≡ drop 1 t
     → (lex between rest ≡ lex between t) × (length rest < length t)
@@ -102,7 +98,7 @@ pub closes_at : (q : ℕ) (bytes t closed : List ℕ) (n : ℕ) → bytes ≡ t
     → closed ≡ take (length bytes - n) (drop n bytes) → begins q closed ≡ true
     → (n < length t) × (get_or t n 0 ≡ q) × (drop n t ≡ q ∷ drop (suc n) t)
 closes_at q bytes t closed n v c h =
-    closes q t n (ap (λ l. begins q (drop n l)) (sym v) ∙ ap (begins q) (sym (unslice n bytes) ∙ sym c) ∙ h)
+    closes q t n (ap (λ l. begins q (drop n l)) (sym v) ∙ ap (begins q) (sym (take_rest bytes n) ∙ sym c) ∙ h)
 
 pub string_split : (q : ℕ) (t s rest : List ℕ) (n : ℕ) → drop n t ≡ q ∷ drop (suc n) t → s ≡ take n t
     → rest ≡ drop (n + 1) t → t ≡ s ++ q ∷ rest
@@ -406,15 +402,11 @@ member_added depth text mid behind rest old new k v named marked reads put = rec
 
 -- ---- the whole text
 
-is_empty : (xs : List ℕ) → length xs ≡ 0 → xs ≡ []
-is_empty [] h = refl
-is_empty (x ∷ xs) h = absurd (omega arith)
-
 pub text_read : (text rest behind : List ℕ) (d : Data) → HasValue 127 text d rest
     → lex between behind ≡ lex between rest → length behind ≡ 0 → read text ≡ Some d
 unfolding lex
 text_read text rest behind d reads same none =
-    let over : lex between rest ≡ [] = sym same ∙ ap (lex between) (is_empty behind none) in
+    let over : lex between rest ≡ [] = sym same ∙ ap (lex between) (nil_from_length behind none) in
     let nothing : left after_value rest ≡ [] = ap (punctuate after_value) over ∙ nothing_left in
     whole_read (value 127 (tokens text)) d
     (reads fresh refl (ap begins_colon over) ∙ ap (λ ts. Some (d, ts)) nothing)

@@ -3,6 +3,7 @@ use Rattle.std.proofs.Common.{◌≡◌, ℕ, ◌-◌, ◌<◌, List, [], ◌∷
 use Rattle.std.proofs.Common.{◌==◌, nat_lt, if◌then◌else◌, Option, Some, None, Vec, Bor, Global, refl, sym, ap, ap₂, ◌∙◌}
 use Rattle.std.proofs.Common.{subst, append_assoc, append-nil, arith, rules}
 use Rattle.std.proofs.lemmas.Bool.{and_parts, or_parts, not-true, eqb-true, eqb-false, ltb-false}
+use Rattle.std.proofs.lemmas.List.{nil_from_length}
 use Rattle.std.proofs.lemmas.List.Elements.{filter_map-append}
 use Rattle.std.specs.List.{list_all, flat_map}
 use Rattle.json.specs.Token.{string, end_array, end_object, begin_array, begin_object}
@@ -29,7 +30,7 @@ use Rattle.cm_plain.specs.Relaxed.{GivesMembers, TakesItem, TakesMember, JsonRea
 use Rattle.cm_plain.specs.declared.tree.JsonTree.{JsonTree, Array, Object}
 use Rattle.cm_plain.specs.declared.tree.JsonTree as made
 use Rattle.cm_plain.proofs.TreeLemmas.{Member}
-use Rattle.cm_plain.proofs.PieceLemmas.{then_bytes, class_mark, chars_back, nothing_behind, of_lexemes}
+use Rattle.cm_plain.proofs.PieceLemmas.{then_bytes, class_mark, chars_back, of_lexemes}
 use Rattle.cm_plain.proofs.PlainLemmas.{behind_a_space, at_mark, at_string, plain_escape, text_read, value_of_string}
 use Rattle.cm_plain.proofs.PlainLemmas.{value_of_items, value_of_members, ItemsSo, first_item, next_item, items_end}
 use Rattle.cm_plain.proofs.PlainLemmas.{no_items_end, MembersSo, first_member, next_member, members_end}
@@ -475,7 +476,7 @@ text_gives text inside rest d gap g none =
     let all : PassesTokens text g.ts rest = passes_then text inside rest [] g.ts gap g.passes in
     let has : AreTokensOf text g.ts = record {
       ps = all.passed;
-      whole = subst (SplitsInto text all.passed) (nothing_behind rest none) all.splits;
+      whole = subst (SplitsInto text all.passed) (nil_from_length rest none) all.splits;
       tokens = all.tokens;
     } in
     let value : HasValue 127 (shown false g.ts) d [] =

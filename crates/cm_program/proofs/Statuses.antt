@@ -62,9 +62,6 @@ none_given count links none =
     let no : length links ≡ 0 = ap length none in
     omega (arith, no)
 
-pub none_more : (count : ℕ) → count ≡ count + 0
-none_more count = omega arith
-
 pub few_given : {L : Type 0} (links : List L) (most : ℕ) → links ≡ [] → length links ≤ most
 few_given links most none =
     let no : length links ≡ 0 = ap length none in

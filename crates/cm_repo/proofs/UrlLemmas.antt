@@ -6,11 +6,10 @@ use Rattle.std.specs.Prelude.{reverse, Result, nat_le}
 use Rattle.std.specs.List.{list_all, prefix_len}
 use Rattle.std.specs.Str.{IsCharBoundary}
 use Rattle.std.proofs.lemmas.Bool.{and_parts, or_parts, not-true, eqb-true, cond-false, lt-leb}
-use Rattle.std.proofs.lemmas.List.{take-append-drop, length-drop, get_or-reverse, length-reverse}
+use Rattle.std.proofs.lemmas.List.{take-append-drop, get_or-reverse, length-reverse, take_rest}
 use Rattle.std.proofs.lemmas.List.Sums.{take_while-cons}
 use Rattle.std.proofs.lemmas.Str.{IsCharBoundary-before_ascii}
 use Rattle.std.proofs.Math.Nat.{sub-zero}
-use Rattle.std.proofs.Math.Seq.{take-length}
 use Rattle.url.specs.Input.{is_c0_control_or_space, is_tab_or_new_line, trim_c0_control_and_space}
 use Rattle.url.specs.Input.{strip_tabs_and_new_lines, split_once}
 use Rattle.url.specs.Scheme.{scheme_len}
@@ -26,9 +25,6 @@ use Rattle.cm_repo.specs.declared.fault.UrlFault.TheVariants.{Memory}
 use Rattle.cm_repo.specs.UrlsInside.{in_prefix, IsUrlPrefix, IsPlainPrefix}
 
 -- ---- the prefix
-
-unslice : (n : ℕ) (t : List ℕ) → take (length t - n) (drop n t) ≡ drop n t
-unslice n t = ap (λ k. take k (drop n t)) (sym (length-drop n t)) ∙ take-length (drop n t)
 
 all_by : (x : ℕ) (xs : List ℕ) (b : Bool) → in_prefix x ≡ b
     → list_all in_prefix (take (length (take_while in_prefix xs)) xs) ≡ true
@@ -55,7 +51,7 @@ cuts (x ∷ xs) (suc n) h =
 cuts_at : (bytes t closed : List ℕ) (n : ℕ) → bytes ≡ t → closed ≡ take (length bytes - n) (drop n bytes)
     → begins_with_hash closed ≡ true → (n < length t) × (get_or t n 0 ≡ 35) × (drop n t ≡ 35 ∷ drop (suc n) t)
 cuts_at bytes t closed n v c h =
-    cuts t n (ap (λ l. begins_with_hash (drop n l)) (sym v) ∙ ap begins_with_hash (sym (unslice n bytes) ∙ sym c) ∙ h)
+    cuts t n (ap (λ l. begins_with_hash (drop n l)) (sym v) ∙ ap begins_with_hash (sym (take_rest bytes n) ∙ sym c) ∙ h)
 
 pub prefix_cut : (bytes t closed : List ℕ) (n : ℕ) → bytes ≡ t → closed ≡ take (length bytes - n) (drop n bytes)
     → begins_with_hash closed ≡ true → IsCharBoundary t n

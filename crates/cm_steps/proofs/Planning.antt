@@ -2,10 +2,11 @@
 use Rattle.std.proofs.Common.{◌≡◌, ℕ, zero, suc, List, [], ◌∷◌, Bool, true, false, cond, ◌&&◌, ◌||◌, ◌==◌, Option, Some, None, IsTrue, length, map, is_some, option_map, refl, sym, ◌∙◌, ap, subst, inl, inr}
 use Rattle.std.specs.List.{list_any}
 use Rattle.std.specs.Option.{option_eq, option_map_or}
-use Rattle.std.specs.Prelude.{nat_eq, IfSome}
+use Rattle.std.specs.Prelude.{nat_eq}
 use Rattle.std.specs.Ordering.{nat_cmp}
 use Rattle.std.specs.BTreeMap.{get}
 use Rattle.std.proofs.lemmas.List.{length-map}
+use Rattle.std.proofs.lemmas.Option.{IfSome_then}
 use Rattle.cm_decl.specs.declared.decl.Decl.{Decl}
 use Rattle.cm_decl.specs.declared.origin.Origin.{Origin}
 use Rattle.cm_decl.specs.declared.origin.Origin.TheVariants as origin
@@ -177,10 +178,6 @@ kid_by p c rows r (Some s) lives parent same = record {
 kid_was : (old new : List Row) (p c : ℕ) (kid : IsKid new p c) → option_map bare (row_of old c) ≡ option_map bare (row_of new c) → IsKid old p c
 kid_was old new p c kid same = kid_by p c old kid.row (row_of old c) refl kid.parent (same ∙ ap (option_map bare) kid.lives)
 
-if_some : {A : Type 0} (P Q : A → Type 0) (o : Option A) → ((a : A) → P a → Q a) → IfSome o P → IfSome o Q
-if_some P Q None more it = it
-if_some P Q (Some a) more it = more a it
-
 module _ (old new : List Row) (next n m : ℕ) (was : IsOrderly old next) (is : IsOrderly new n) (bares : map bare old ≡ map bare new) (follows : Follows old new m) where
   long : length old ≡ length new
   long = sym (length-map old bare) ∙ ap length bares ∙ length-map new bare
@@ -249,8 +246,8 @@ module _ (old new : List Row) (next n m : ℕ) (was : IsOrderly old next) (is : 
   plan_stays : (plan : DescentPlan) → IsPlan old plan → IsPlan new plan
   plan_stays plan it = record {
     way = way_stays plan.top plan.way.items it.way;
-    others = λ top. if_some (λ way. IsDescent old top way.items) (λ way. IsDescent new top way.items) (get nat_cmp plan.others top) (λ way. way_stays top way.items) (it.others top);
-    levels = λ p. if_some (KnowsDependents old p) (KnowsDependents new p) (get nat_cmp plan.levels p) (level_stays p) (it.levels p);
+    others = λ top. IfSome_then (get nat_cmp plan.others top) (it.others top) (λ way. way_stays top way.items);
+    levels = λ p. IfSome_then (get nat_cmp plan.levels p) (it.levels p) (level_stays p);
   }
 
 -- ---- entries

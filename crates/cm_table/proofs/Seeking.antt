@@ -1,10 +1,10 @@
 -- Offers found by binary search.
-use Rattle.std.proofs.Common.{◌≡◌, ℕ, List, Bool, true, false, ◌&&◌, true≢false, None, Some, refl, sym, ap, ap₂, ◌∙◌, subst, nat_cmp, Ordering, Less, Equal, Greater, is_eq, bytes_eq}
+use Rattle.std.proofs.Common.{◌≡◌, ℕ, List, Bool, true, false, ◌&&◌, true≢false, None, Some, refl, sym, ap, ap₂, ◌∙◌, subst, nat_cmp, Equal, is_eq, bytes_eq}
 use Rattle.std.specs.Prelude.{slice_get, position}
 use Rattle.std.specs.List.Sorted.{IsPartitionedBy}
 use Rattle.std.specs.Option.{option_map_or}
 use Rattle.std.specs.Ordering.{is_lt, ordering_then}
-use Rattle.std.specs.Cmp.{IsTotalOrder, IsStrictWeakOrder}
+use Rattle.std.specs.Cmp.{IsTotalOrder, IsStrictWeakOrder, tied_then}
 use Rattle.std.specs.Cmp.Lexicographic.{slice_cmp, bytes_decides}
 use Rattle.std.proofs.lemmas.Bool.{and_parts}
 use Rattle.std.proofs.lemmas.Cmp.{then_total, on_total, nat_cmp_total, nat_list_cmp_total}
@@ -47,11 +47,6 @@ rank_tie Protocol Directory = refl
 rank_tie Directory Protocol = refl
 rank_tie Directory Directory = refl
 
-pub tied_then : (a b : Ordering) → is_eq (ordering_then a b) ≡ (is_eq a && is_eq b)
-tied_then Less b = refl
-tied_then Equal b = refl
-tied_then Greater b = refl
-
 regroup : (a b c : Bool) → ((a && b) && c) ≡ (a && (c && b))
 regroup true true true = refl
 regroup true true false = refl
@@ -76,7 +71,7 @@ module _ (c : ChildName) (kind : Kind) (name : List ℕ) where
       sym (ap₂ (λ s t. s && t) (is_eq-slice_cmp x.to (target_of c))
       (ap₂ (λ s t. s && t) (rank_tie x.give.kind kind) (is_eq-slice_cmp x.give.target_name name)))
       ∙ sym (regroup (is_eq to) (is_eq own) (is_eq rank))
-      ∙ sym (tied_then (ordering_then to own) rank ∙ ap (λ s. s && is_eq rank) (tied_then to own))
+      ∙ sym (sym (tied_then (ordering_then to own) rank) ∙ ap (λ s. s && is_eq rank) (sym (tied_then to own)))
       ∙ ap is_eq h
 
 -- ---- the search, by its answers

@@ -4,7 +4,7 @@ use Rattle.std.specs.Prelude.{slice_get, position}
 use Rattle.std.specs.List.Sorted.{IsPartitionedBy}
 use Rattle.std.specs.Option.{option_map_or}
 use Rattle.std.specs.Ordering.{is_lt}
-use Rattle.std.specs.Cmp.{IsTotalOrder, IsStrictWeakOrder}
+use Rattle.std.specs.Cmp.{IsTotalOrder, IsStrictWeakOrder, tied_then}
 use Rattle.std.specs.Cmp.Lexicographic.{slice_cmp, bytes_decides}
 use Rattle.std.proofs.lemmas.Bool.{and_parts}
 use Rattle.std.proofs.lemmas.Cmp.{then_total, on_total, nat_cmp_total, nat_list_cmp_total}
@@ -13,7 +13,7 @@ use Rattle.cm_decl.specs.declared.kind.Kind.{Kind}
 use Rattle.cm_decl.specs.Same.{same_kind}
 use Rattle.cm_table.specs.Offers.{kind_rank}
 use Rattle.cm_table.specs.Named.{NameKey, name_cmp, name_key, name_key_at, named_cmp, sought_key, is_named, IsNameSplit, IsNameOrder}
-use Rattle.cm_table.proofs.Seeking.{same_rank, rank_tie, tied_then}
+use Rattle.cm_table.proofs.Seeking.{same_rank, rank_tie}
 use Rattle.cm_table.proofs.lists.Sought as sought
 
 pub name_total : IsTotalOrder name_cmp
@@ -49,7 +49,7 @@ module _ {X : Type 0} (name_in : X → List ℕ) (kind_in : X → Kind) where
         let own = slice_cmp nat_cmp (name_in x) name in
         let rank = nat_cmp (kind_rank (kind_in x)) (kind_rank kind) in
         sym (ap₂ (λ s t. s && t) (rank_tie (kind_in x) kind) (is_eq-slice_cmp (name_in x) name))
-        ∙ swapped (is_eq rank) (is_eq own) ∙ sym (tied_then own rank) ∙ ap is_eq h
+        ∙ swapped (is_eq rank) (is_eq own) ∙ sym (sym (tied_then own rank)) ∙ ap is_eq h
 
   -- ---- the search, by its answers
 

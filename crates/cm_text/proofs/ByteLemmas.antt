@@ -1,5 +1,5 @@
 -- The classes of bytes, of which each byte has one, and tests that hold together.
-use Rattle.std.proofs.Common.{◌≡◌, ℕ, Bool, true, false, not, ◌&&◌, ◌||◌, ◌==◌, refl, sym, arith, rules}
+use Rattle.std.proofs.Common.{◌≡◌, ℕ, Bool, true, false, ◌||◌, ◌==◌, refl, arith, rules}
 use Rattle.cm_text.specs.Bytes.{is_mark, is_space, is_quote, is_word_byte}
 use Rattle.cm_text.specs.Pieces.{mark_byte, space_byte, quote_byte, word_byte, class}
 
@@ -42,18 +42,6 @@ pub same : (q : ℕ) → (q == q) ≡ true
 same q = grind (arith, rules)
 
 -- ---- bools
-
-pub both_left : (a b : Bool) → (a && b) ≡ true → a ≡ true
-both_left true b h = refl
-both_left false b h = h
-
-pub both_right : (a b : Bool) → (a && b) ≡ true → b ≡ true
-both_right true b h = h
-both_right false b h = absurd (grind (arith, rules))
-
-pub not_true : (a : Bool) → not a ≡ true → a ≡ false
-not_true true h = sym h
-not_true false h = refl
 
 pub either_left : (a b : Bool) → (a || b) ≡ false → a ≡ false
 either_left true b h = h

@@ -4,6 +4,7 @@ use Rattle.std.specs.List.{list_all, flat_map, join_with_byte}
 use Rattle.std.proofs.lemmas.Bool.{and_parts, or_parts, not-true}
 use Rattle.std.proofs.lemmas.List.{append-nil, append_assoc}
 use Rattle.std.proofs.lemmas.Grind.{flat_map-append}
+use Rattle.std.specs.Cmp.{first_so}
 use Rattle.cm_text.specs.Bytes.{is_quote}
 use Rattle.cm_text.specs.Token.{Token, quoted}
 use Rattle.cm_text.specs.Split.{is_char, is_token}
@@ -12,7 +13,6 @@ use Rattle.cm_text.specs.Scan.{token_of, within}
 use Rattle.cm_text.specs.Spelling.{spelling_behind_space, is_pending, is_same, chars_json}
 use Rattle.cm_text.specs.Writing.{json_behind, json_pending, pending_spelling}
 use Rattle.cm_text.specs.declared.token.Token.{Token as CodeToken}
-use Rattle.cm_text.proofs.ByteLemmas.{both_left}
 use Rattle.cm_text.proofs.found.StringLemmas.{within_spells}
 
 -- ---- strings in double quotes
@@ -22,7 +22,7 @@ double_quote q h other = grind (arith, rules)
 
 pub quoted_json : (q : ℕ) (bs : List ℕ) → is_token (quoted q (within false bs)) ≡ true → (q ≡ 39 → ⊥) → in_quotes bs ≡ token_json false (quoted q (within false bs))
 quoted_json q bs h other =
-    let double : q ≡ 34 = double_quote q (both_left (is_quote q) (list_all (is_char q) (within false bs)) h) other in
+    let double : q ≡ 34 = double_quote q (first_so (is_quote q) (list_all (is_char q) (within false bs)) h) other in
     rw double (ap (λ xs. 34 ∷ (xs ++ 34 ∷ [])) (sym (within_spells false bs)))
 
 -- ---- strings in single quotes

@@ -2,6 +2,7 @@
 use Rattle.std.proofs.Common.{◌≡◌, ◌≢◌, ◌⊎◌, ℕ, zero, suc, ◌+◌, ◌-◌, ◌*◌, ◌/◌, ◌%◌, ◌^◌, ◌<◌, ◌≤◌, List, [], ◌∷◌, ◌++◌, length, map, set, get_or, Some, None, Option, Bool, true, false, cond, eqb, true≢false, refl, sym, ap, ◌∙◌, subst, inl, inr, ⊎_elim, arith, ne_eqb, eq-eqb, append_assoc, length-append}
 use Rattle.std.specs.Prelude.{filter, All, slice_index_or}
 use Rattle.std.proofs.lemmas.List.Elements.{filter-append}
+use Rattle.std.proofs.lemmas.List.{nil_from_length, append_cancel_left}
 use Rattle.cm_turn.specs.History.{StartsWith, entries_by, longer, longer_if}
 
 module _ {E : Type 0} where
@@ -43,10 +44,6 @@ module _ {E : Type 0} where
   pub entries-append : (by : E → ℕ) (c : ℕ) (xs ys : List E) → entries_by by c (xs ++ ys) ≡ entries_by by c xs ++ entries_by by c ys
   entries-append by c xs ys = filter-append (λ e. eqb (by e) c) xs ys
 
-  nothing-left : (xs : List E) → length xs ≡ 0 → xs ≡ []
-  nothing-left [] e = refl
-  nothing-left (x ∷ xs) e = absurd (omega arith)
-
   -- where all of a caller's entries were seen, a longer beginning has no others of it
   pub entries-between : (by : E → ℕ) (c : ℕ) (log mid seen mine : List E) → StartsWith log mid → StartsWith mid seen → entries_by by c log ≡ mine → entries_by by c seen ≡ mine → entries_by by c mid ≡ mine
   entries-between by c log mid seen mine p q all own =
@@ -56,7 +53,7 @@ module _ {E : Type 0} where
       let l : mine ≡ (mine ++ X) ++ Y = sym all ∙ (ap (entries_by by c) p.1 ∙ (entries-append by c mid p.0 ∙ ap (λ l. l ++ Y) m)) in
       let e = ap length l ∙ (length-append (mine ++ X) Y ∙ ap (λ (k : ℕ). k + length Y) (length-append mine X)) in
       let z : length X ≡ 0 = omega arith in
-      m ∙ (ap (λ l. mine ++ l) (nothing-left X z) ∙ Rattle.std.proofs.Common.append-nil mine)
+      m ∙ (ap (λ l. mine ++ l) (nil_from_length X z) ∙ Rattle.std.proofs.Common.append-nil mine)
 
   pub entries-others : (by : E → ℕ) (c d : ℕ) (xs : List E) → All (λ e. by e ≡ c) xs → d ≢ c → entries_by by d xs ≡ []
   entries-others by c d [] h ne = refl
@@ -72,14 +69,10 @@ module _ {E : Type 0} where
       let n : eqb (by x) c ≡ true = eq-eqb (by x) c e in
       rw n (ap (λ (l : List E). x ∷ l) (entries-own by c xs (λ k z l. h (suc k) z (omega arith))))
 
-  append_cancel : (xs ys zs : List E) → xs ++ ys ≡ xs ++ zs → ys ≡ zs
-  append_cancel [] ys zs e = e
-  append_cancel (x ∷ xs) ys zs e = append_cancel xs ys zs (cc e)
-
   -- a caller's entries after a turn of its own
   pub entries-left : (by : E → ℕ) (c : ℕ) (log seen mine made es : List E) → log ≡ seen ++ made → All (λ e. by e ≡ c) made → entries_by by c seen ≡ mine → log ≡ seen ++ es → entries_by by c log ≡ mine ++ es
   entries-left by c log seen mine made es is alone own also =
-      let same : made ≡ es = append_cancel seen made es (sym is ∙ also) in
+      let same : made ≡ es = append_cancel_left seen made es (sym is ∙ also) in
       ap (entries_by by c) is ∙ (entries-append by c seen made ∙ (λ i. own i ++ (entries-own by c made alone ∙ same) i))
 
   -- an entry is among its caller's

@@ -3,10 +3,11 @@ use Rattle.std.proofs.Common.{◌≡◌, ℕ, ◌+◌, ◌-◌, ◌%◌, ◌^◌
 use Rattle.std.specs.Prelude.{slice_index}
 use mathlib.Core.Option.{some, none, some-ne-none, some-injective}
 use Rattle.atomic_table.specs.Table.{State}
+use Rattle.std.proofs.lemmas.Option.{same_Some}
 use Rattle.cm_turn.specs.declared.view.SeatView.{SeatView}
 use Rattle.cm_turn.specs.Rule.{Homes, KeepsRule, Moment, MomentHolds, tickets_out, ticket_count, left_home}
 use Rattle.cm_turn.specs.Laws.{OneTurn, OneCaller, CallersAreMade, OnlyCallersWait, OneTicket, CountsTickets, TicketsFollow, AllAreHeld, OneFrame, HomeFrame, SeenBegins, OutOnlyInTurn, OutInTurn, HomeIsHistory, TurnHasSeenAll, EntriesAreMine, NoOtherEntries}
-use Rattle.cm_turn.proofs.ViewLists.{some_same, total-le}
+use Rattle.cm_turn.proofs.ViewLists.{total-le}
 use Rattle.cm_turn.proofs.Moments.{off, away}
 
 -- the value at home, and whether anything is
@@ -16,7 +17,7 @@ home_value (x ∷ xs) = x
 
 home_same : {S : Type 0} (x y : S) (homes : Homes S) → homes ≡ some (Some x) ∷ [] → homes ≡ some (Some y) ∷ [] → x ≡ y
 unfolding home_value
-home_same x y homes e f = some_same x y (some-injective (Some x) (Some y) (ap home_value (sym e ∙ f)))
+home_same x y homes e f = same_Some x y (some-injective (Some x) (Some y) (ap home_value (sym e ∙ f)))
 
 left_else : {S : Type 0} (b : Rattle.std.specs.Prelude.Bool) (x : S) (homes : Homes S) → homes ≡ some (Some x) ∷ [] → homes ≡ left_home b ∷ [] → ⊥
 unfolding home_value

@@ -14,10 +14,6 @@ use Rattle.cm_turn.proofs.ViewLists.{each_set, each_snoc, set_at, total-set, tot
 pub off : {A : Type 0} {b : Bool} → b ≡ true → b ≡ false → A
 off t f = absurd (true≢false (sym t ∙ f))
 
-pub not_on : (b : Bool) → (b ≡ true → ⊥) → b ≡ false
-not_on true h = absurd (h refl)
-not_on false h = refl
-
 -- the words stay where one of them is only read
 pub same_word : {E : Type 0} (m : Moment E) (ws : List ℕ) → ws ≡ (m.drawn % 2 ^ 64) ∷ (m.served % 2 ^ 64) ∷ [] → slice_set ws 1 (slice_index ws 1) ≡ (m.drawn % 2 ^ 64) ∷ (m.served % 2 ^ 64) ∷ []
 same_word m ws e = rw e refl

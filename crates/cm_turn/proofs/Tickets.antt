@@ -7,6 +7,7 @@ use native.Mathlib.Decide.{ℕ_discrete}
 use lib.ListN.{get_elem?}
 use Rattle.atomic_table.specs.Table.{State, step, keeps, takes, gives, Allows, stepped}
 use Rattle.atomic_table.proofs.Lists.{set_again, one_turn}
+use Rattle.std.proofs.lemmas.Bool.{false_from_ne_true}
 use Rattle.cm_turn.specs.declared.view.SeatView.{SeatView}
 use Rattle.cm_turn.specs.History.{StartsWith, entries_by}
 use Rattle.cm_turn.specs.Views.{with_ticket, with_turn, with_slot, without_turn}
@@ -14,7 +15,7 @@ use Rattle.cm_turn.specs.Rule.{tickets_out, parts_of, ticket_count, Moment, left
 use Rattle.cm_turn.specs.Plays.{ticket_word, Looks, Draws, TakesEmpty, PassesOn}
 use Rattle.cm_turn.proofs.ViewLists.{each_set, set_at, total-set, total-le}
 use Rattle.cm_turn.proofs.Histories.{starts-refl}
-use Rattle.cm_turn.proofs.Moments.{off, one_holder, home_set, same_total, same_word, queue_set, queue_apart, away, only_turn, not_on}
+use Rattle.cm_turn.proofs.Moments.{off, one_holder, home_set, same_total, same_word, queue_set, queue_apart, away, only_turn}
 
 pub mod_suc : (a : ℕ) → (a % 2 ^ 64 + 1) % 2 ^ 64 ≡ (a + 1) % 2 ^ 64
 mod_suc a = omega arith
@@ -289,7 +290,7 @@ module _ {S E F : Type 0} (story : S → List E) (frame : S → F) (by : E → �
               ap (λ xs. slice_set xs 0 (some (Some x))) hs,
               is ∙ mine.1,
               fit.framed (frame x) framed,
-              each_set (λ _ (u : SeatView E F). u.turn ≡ false) s.views id w (λ j u ne e. not_on u.turn (λ its. else_no j u ne e ((h.each j u e).turn its).0)) refl,
+              each_set (λ _ (u : SeatView E F). u.turn ≡ false) s.views id w (λ j u ne e. false_from_ne_true u.turn (λ its. else_no j u ne e ((h.each j u e).turn its).0)) refl,
             );
           },
         ),

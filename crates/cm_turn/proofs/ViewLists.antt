@@ -4,6 +4,7 @@ use Rattle.std.specs.Prelude.{slice_index_or}
 use mathlib.Core.Option.{some, some-ne-none, some-injective}
 use lib.ListN.{get_elem?}
 use Rattle.atomic_table.proofs.Lists.{at_set}
+use Rattle.std.proofs.lemmas.Option.{same_Some}
 use Rattle.cm_turn.specs.Rule.{total}
 
 module _ {V : Type 0} where
@@ -64,13 +65,10 @@ get-map f [] k d lt = absurd (omega arith)
 get-map f (x ∷ xs) zero d lt = refl
 get-map f (x ∷ xs) (suc k) d lt = get-map f xs k d (omega arith)
 
-pub some_same : {S : Type 0} (x y : S) → Some x ≡ Some y → x ≡ y
-some_same x y e = cc e
-
 slot_value : {S : Type 0} → List (ℕ × Option S) → Option S
 slot_value [] = None
 slot_value (x ∷ xs) = x.1
 
 pub slot_same : {S : Type 0} (x y : S) → ◌≡◌ {A = List (ℕ × Option S)} ((0, Some x) ∷ []) ((0, Some y) ∷ []) → x ≡ y
 unfolding slot_value
-slot_same x y e = some_same x y (ap slot_value e)
+slot_same x y e = same_Some x y (ap slot_value e)

@@ -6,7 +6,8 @@ use Rattle.std.proofs.lemmas.Bool.{eqb-true, eq-eqb}
 use Rattle.std.proofs.lemmas.List.{get_or-take, length-take}
 use Rattle.std.proofs.lemmas.List.Quantifiers.{position-Some}
 use Rattle.std.proofs.lemmas.Option.{slice_get_within, slice_get-get_or}
-use Rattle.cm_decl.proofs.Sameness.{and_first, and_second, or_split}
+use Rattle.std.specs.Cmp.{first_so, second_so}
+use Rattle.cm_decl.proofs.Sameness.{or_split}
 use Rattle.cm_decl.specs.Rules.{is_inside}
 use Rattle.cm_decl.specs.declared.rows.Usage.{Usage}
 use Rattle.cm_decl.specs.declared.rows.Offer.{Offer}
@@ -40,13 +41,13 @@ right_near a b e = by (covers a b)
 pub inside_covered : (path outer : List ℕ) → is_inside path outer ≡ true → covers (zeroed outer) (zeroed path) ≡ true
 inside_covered [] [] e = absurd (true≢false (sym e))
 inside_covered (b ∷ path) [] e =
-    let slash : 47 ≡ b = eqb-true 47 b (and_first (47 == b) _ e) in
+    let slash : 47 ≡ b = eqb-true 47 b (first_so (47 == b) _ e) in
     subst (λ c. ((if c == 47 then 0 else c) == 0) ≡ true) slash refl
 inside_covered [] (x ∷ outer) e = absurd (true≢false (sym e))
 inside_covered (b ∷ path) (x ∷ outer) e =
-    let same : x ≡ b = eqb-true x b (and_first (x == b) (is_inside path outer) e) in
+    let same : x ≡ b = eqb-true x b (first_so (x == b) (is_inside path outer) e) in
     subst (λ c. (((if x == 47 then 0 else x) == (if c == 47 then 0 else c)) && covers (zeroed outer) (zeroed path)) ≡ true) same
-    (rw (eq-eqb (if x == 47 then 0 else x) (if x == 47 then 0 else x) refl) (inside_covered path outer (and_second (x == b) (is_inside path outer) e)))
+    (rw (eq-eqb (if x == 47 then 0 else x) (if x == 47 then 0 else x) refl) (inside_covered path outer (second_so (x == b) (is_inside path outer) e)))
 
 -- ---- rows that stand apart
 
@@ -71,11 +72,11 @@ Inside path outer = (rest : List ℕ) × (path ≡ outer ++ 47 ∷ rest)
 
 tells : (path outer : List ℕ) → is_inside path outer ≡ true → Inside path outer
 tells [] [] e = absurd (true≢false (sym e))
-tells (b ∷ path) [] e = (path, ap (λ x. x ∷ path) (sym (eqb-true 47 b (and_first (47 == b) true e))))
+tells (b ∷ path) [] e = (path, ap (λ x. x ∷ path) (sym (eqb-true 47 b (first_so (47 == b) true e))))
 tells [] (x ∷ outer) e = absurd (true≢false (sym e))
 tells (b ∷ path) (x ∷ outer) e =
-    let later : Inside path outer = tells path outer (and_second (x == b) (is_inside path outer) e) in
-    (later.0, ap (λ y. y ∷ path) (sym (eqb-true x b (and_first (x == b) (is_inside path outer) e))) ∙ ap (λ l. x ∷ l) later.1)
+    let later : Inside path outer = tells path outer (second_so (x == b) (is_inside path outer) e) in
+    (later.0, ap (λ y. y ∷ path) (sym (eqb-true x b (first_so (x == b) (is_inside path outer) e))) ∙ ap (λ l. x ∷ l) later.1)
 
 shows : (outer rest : List ℕ) → is_inside (outer ++ 47 ∷ rest) outer ≡ true
 shows [] [] = refl
@@ -104,7 +105,7 @@ nested_near a b e = elim (or_split (is_inside a.path b.path) (is_inside b.path a
 -- an offer is near one of its target and target name
 pub target_near : (a b : Offer) → same_target a b ≡ true → near (offer_key a) (offer_key b) ≡ true
 target_near a b e =
-    let to : a.to ≡ b.to = (bytes_decides a.to b.to).0 (and_first (bytes_eq a.to b.to) (bytes_eq a.give.target_name b.give.target_name) e) in
-    let name : a.give.target_name ≡ b.give.target_name = (bytes_decides a.give.target_name b.give.target_name).0 (and_second (bytes_eq a.to b.to) (bytes_eq a.give.target_name b.give.target_name) e) in
+    let to : a.to ≡ b.to = (bytes_decides a.to b.to).0 (first_so (bytes_eq a.to b.to) (bytes_eq a.give.target_name b.give.target_name) e) in
+    let name : a.give.target_name ≡ b.give.target_name = (bytes_decides a.give.target_name b.give.target_name).0 (second_so (bytes_eq a.to b.to) (bytes_eq a.give.target_name b.give.target_name) e) in
     subst (λ t. near (offer_key a) (t ++ 47 ∷ b.give.target_name) ≡ true) to
     (subst (λ t. near (offer_key a) (a.to ++ 47 ∷ t) ≡ true) name (left_near (offer_key a) (offer_key a) (covers_itself (offer_key a))))

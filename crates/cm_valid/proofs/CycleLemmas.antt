@@ -4,6 +4,8 @@ use Rattle.std.specs.Prelude.{filter}
 use Rattle.std.specs.List.{list_any}
 use Rattle.std.specs.Str.{bytes_eq}
 use Rattle.std.proofs.lemmas.List.Folds.{list_any-append}
+use Rattle.std.proofs.lemmas.Bool.{or_from}
+use Rattle.std.specs.Cmp.{first_so}
 use Rattle.cm_names.specs.declared.child.ChildName.{ChildName}
 use Rattle.cm_decl.specs.declared.decl.Decl.{Decl}
 use Rattle.cm_decl.specs.declared.rows.Give.{Give}
@@ -14,7 +16,6 @@ use Rattle.cm_decl.specs.declared.node.Node.{Node}
 use Rattle.cm_decl.specs.declared.node.Node.TheVariants.{Own, Child}
 use Rattle.cm_decl.specs.Reach.{DependencyPath, NoCycle}
 use Rattle.cm_decl.specs.Graph.{is_strong, is_from_child, is_from_node, own_sources, offers_to, sources_of, target_of, StrongOn, is_node}
-use Rattle.cm_decl.proofs.Sameness.{and_first}
 use Rattle.cm_valid.specs.Cycles.{needs_child}
 
 -- ---- tests
@@ -27,10 +28,6 @@ right_false : (a b : Bool) → (a || b) ≡ false → b ≡ false
 right_false false b e = e
 right_false true b e = absurd (true≢false e)
 
-both_false : (a b : Bool) → a ≡ false → b ≡ false → (a || b) ≡ false
-both_false false b x y = y
-both_false true b x y = absurd (true≢false x)
-
 -- where no item passes, none is left
 none_left : {A : Type 0} (keep : A → Bool) (xs : List A) → list_any keep xs ≡ false → filter keep xs ≡ []
 none_left keep [] e = refl
@@ -38,7 +35,7 @@ none_left keep (x ∷ xs) e =
     ap (λ b. cond b (x ∷ filter keep xs) (filter keep xs)) (left_false (keep x) (list_any keep xs) e) ∙ none_left keep xs (right_false (keep x) (list_any keep xs) e)
 
 one_more : {A : Type 0} (p : A → Bool) (b : Bool) (x : A) (xs : List A) → p x ≡ false → list_any p xs ≡ false → list_any p (cond b (x ∷ xs) xs) ≡ false
-one_more p true x xs none rest = both_false (p x) (list_any p xs) none rest
+one_more p true x xs none rest = or_from (p x) (list_any p xs) none rest
 one_more p false x xs none rest = rest
 
 -- a test that no item passes is passed by none that is kept
@@ -51,7 +48,7 @@ of_kept keep p (x ∷ xs) e =
 of_made : {A B : Type 0} (f : A → B) (p : B → Bool) (xs : List A) → list_any (λ x. p (f x)) xs ≡ false → list_any p (map f xs) ≡ false
 of_made f p [] e = refl
 of_made f p (x ∷ xs) e =
-    both_false (p (f x)) (list_any p (map f xs)) (left_false (p (f x)) (list_any (λ y. p (f y)) xs) e) (of_made f p xs (right_false (p (f x)) (list_any (λ y. p (f y)) xs) e))
+    or_from (p (f x)) (list_any p (map f xs)) (left_false (p (f x)) (list_any (λ y. p (f y)) xs) e) (of_made f p xs (right_false (p (f x)) (list_any (λ y. p (f y)) xs) e))
 
 -- ---- sources
 
@@ -63,7 +60,7 @@ no_child c (origin.Child k) e = absurd (true≢false e)
 no_child c origin.Void e = refl
 
 one_source : (c : ChildName) (b : Bool) (o : Origin) (os : List Origin) → (b && is_from_child o) ≡ false → list_any (is_from_node (Child c)) os ≡ false → list_any (is_from_node (Child c)) (cond b (o ∷ os) os) ≡ false
-one_source c true o os none rest = both_false (is_from_node (Child c) o) (list_any (is_from_node (Child c)) os) (no_child c o none) rest
+one_source c true o os none rest = or_from (is_from_node (Child c) o) (list_any (is_from_node (Child c)) os) (no_child c o none) rest
 one_source c false o os none rest = rest
 
 cond_map : {A B : Type 0} (f : A → B) (b : Bool) (x : A) (xs : List A) → map f (cond b (x ∷ xs) xs) ≡ cond b (f x ∷ map f xs) (map f xs)
@@ -94,12 +91,12 @@ module _ (d : Decl) (free : needs_child d ≡ false) where
       let none : list_any (λ (o : Offer). is_strong o.give.dependency && is_from_child o.give.from) aimed ≡ false = of_kept (λ (o : Offer). bytes_eq o.to (target_of k)) (λ (o : Offer). is_strong o.give.dependency && is_from_child o.give.from) d.offers (right_false _ _ free) in
       let made : list_any (λ (g : Give). is_strong g.dependency && is_from_child g.from) (offers_to d k) ≡ false = of_made (λ (o : Offer). o.give) (λ (g : Give). is_strong g.dependency && is_from_child g.from) aimed none in
       list_any-append (λ (g : Give). is_strong g.dependency && is_from_child g.from) (offers_to d k) []
-      ∙ both_false _ false made refl
+      ∙ or_from _ false made refl
 
   -- the component itself depends on nothing
   from_own : (y : Node) → StrongOn d [] Own y → ⊥
   from_own y on =
-      let first = and_first (list_any (is_from_node y) (own_sources d)) (is_node d [] Own) (and_first (list_any (is_from_node y) (own_sources d) && is_node d [] Own) (is_node d [] y) on) in
+      let first = first_so (list_any (is_from_node y) (own_sources d)) (is_node d [] Own) (first_so (list_any (is_from_node y) (own_sources d) && is_node d [] Own) (is_node d [] y) on) in
       true≢false (sym (subst (λ os. IsTrue (list_any (is_from_node y) os)) own_none first))
 
   -- nothing depends on a child
@@ -107,7 +104,7 @@ module _ (d : Decl) (free : needs_child d ≡ false) where
   on_child Own c on = from_own (Child c) on
   on_child (Child k) c on =
       let sources = list_any (is_from_node (Child c)) (sources_of d [] (Child k)) in
-      let first = and_first sources (is_node d [] (Child k)) (and_first (sources && is_node d [] (Child k)) (is_node d [] (Child c)) on) in
+      let first = first_so sources (is_node d [] (Child k)) (first_so (sources && is_node d [] (Child k)) (is_node d [] (Child c)) on) in
       true≢false (sym (subst IsTrue (no_source c (offers_to d k ++ []) (given_none k)) first))
 
   last_step : (x y : Node) (zs : List Node) → DependencyPath (StrongOn d []) x zs y → (w : Node) × StrongOn d [] w y

@@ -9,6 +9,7 @@ use Rattle.std.proofs.lemmas.List.Folds.{list_any_more}
 use Rattle.std.proofs.lemmas.Cmp.{nat_list_eq_equiv}
 use Rattle.std.specs.declared.cmp.Reverse.{Reverse}
 use denote.Ref.{Bor}
+use Rattle.std.proofs.Math.Bool.{or_self_left}
 use Rattle.cm_valid.specs.Lookup.{has}
 
 -- the names, by their bytes
@@ -37,10 +38,6 @@ swapped true false r = refl
 swapped false true r = refl
 swapped false false r = refl
 
-twice : (p r : Bool) → (p || r) ≡ (p || (p || r))
-twice true r = refl
-twice false r = refl
-
 -- a key that is put in is found beside the others
 pub inserted : (name : List ℕ) (key : Reverse (Bor (List ℕ))) (ks : List (Reverse (Bor (List ℕ)))) → has (texts (insert_key text_cmp ks key)) name ≡ (bytes_eq name key.0.now || has (texts ks) name)
 inserted name key [] = refl
@@ -50,7 +47,7 @@ inserted name key (k ∷ ks) = by (text_cmp key k) refl (inserted name key ks)
     by Less e later = refl
     by Equal e later =
         let same : key.0.now ≡ k.0.now = sym ((bytes_decides k.0.now key.0.now).0 (sym (is_eq-slice_cmp k.0.now key.0.now) ∙ ap is_eq e)) in
-        twice (bytes_eq name k.0.now) (has (texts ks) name) ∙ ap (λ t. bytes_eq name t || (bytes_eq name k.0.now || has (texts ks) name)) (sym same)
+        sym (or_self_left (bytes_eq name k.0.now) (has (texts ks) name)) ∙ ap (λ t. bytes_eq name t || (bytes_eq name k.0.now || has (texts ks) name)) (sym same)
     by Greater e later =
         ap (λ v. bytes_eq name k.0.now || v) later ∙ swapped (bytes_eq name k.0.now) (bytes_eq name key.0.now) (has (texts ks) name)
 

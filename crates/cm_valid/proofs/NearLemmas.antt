@@ -3,16 +3,16 @@ use Rattle.std.specs.Prelude.{slice_get, nat_eq, ◌==◌, min, max}
 use Rattle.std.specs.List.{starts_with}
 use Rattle.std.specs.Ordering.{is_lt, ordering_then}
 use Rattle.std.specs.Cmp.Lexicographic.{slice_cmp}
-use Rattle.std.proofs.lemmas.Bool.{eqb-true, eq-eqb, cases_lt, cases_order}
+use Rattle.std.proofs.lemmas.Bool.{eqb-true, eq-eqb, cases_lt, cases_order, false_from_ne_true}
 use Rattle.std.proofs.lemmas.Bool.Decides.{nat_tests}
 use Rattle.std.specs.List.{Contains}
 use Rattle.std.specs.List.Sorted.{IsSorted, IsPermutation}
-use Rattle.std.specs.Cmp.{IsTotalOrder, IsStrictWeakOrder}
+use Rattle.std.specs.Cmp.{IsTotalOrder, IsStrictWeakOrder, first_so, second_so}
 use Rattle.std.proofs.lemmas.Cmp.{then_total, on_total, nat_cmp_total, nat_list_cmp_total}
 use Rattle.std.proofs.lemmas.List.Sorted.{ranks_by, sorted_far, Contains-permutation}
 use Rattle.std.proofs.lemmas.Option.{slice_get_within, slice_get-get_or, get_or_from_slice_get}
 use Rattle.std.proofs.lemmas.Bool.{and_from}
-use Rattle.cm_decl.proofs.Sameness.{and_first, and_second, or_split}
+use Rattle.cm_decl.proofs.Sameness.{or_split}
 use Rattle.cm_valid.specs.declared.key.RowKey.{RowKey}
 use Rattle.cm_valid.specs.Near.{covers, near, AtMost, IsInOrder, AreKeys, ApartKeys, KeysAreApart}
 
@@ -37,13 +37,13 @@ between [] (y ∷ ys) (z ∷ zs) h k e =
 between (x ∷ xs) [] c h k e = absurd (true≢false h)
 between (x ∷ xs) (y ∷ ys) [] h k e = absurd (true≢false (sym e))
 between (x ∷ xs) (y ∷ ys) (z ∷ zs) h k e =
-    let same : x ≡ z = eqb-true x z (and_first (x == z) (covers xs zs) e) in
+    let same : x ≡ z = eqb-true x z (first_so (x == z) (covers xs zs) e) in
     let low : x ≤ y = first_at_most x y (slice_cmp nat_cmp ys xs) h in
     let high : y ≤ z = first_at_most y z (slice_cmp nat_cmp zs ys) k in
     let one : x ≡ y = omega arith in
     let two : y ≡ z = omega arith in
     and_from (x == y) (covers xs ys) (eq-eqb x y one)
-    (between xs ys zs (rest_at_most x y (slice_cmp nat_cmp ys xs) one h) (rest_at_most y z (slice_cmp nat_cmp zs ys) two k) (and_second (x == z) (covers xs zs) e))
+    (between xs ys zs (rest_at_most x y (slice_cmp nat_cmp ys xs) one h) (rest_at_most y z (slice_cmp nat_cmp zs ys) two k) (second_so (x == z) (covers xs zs) e))
 
 -- a text that covers one that isn't before it is covered by it
 pub both_ways : (a b : List ℕ) → AtMost a b → covers b a ≡ true → covers a b ≡ true
@@ -51,9 +51,9 @@ both_ways [] [] h e = refl
 both_ways [] (y ∷ ys) h e = absurd (true≢false (sym e))
 both_ways (x ∷ xs) [] h e = absurd (true≢false h)
 both_ways (x ∷ xs) (y ∷ ys) h e =
-    let same : y ≡ x = eqb-true y x (and_first (y == x) (covers ys xs) e) in
+    let same : y ≡ x = eqb-true y x (first_so (y == x) (covers ys xs) e) in
     and_from (x == y) (covers xs ys) (eq-eqb x y (sym same))
-    (both_ways xs ys (rest_at_most x y (slice_cmp nat_cmp ys xs) (sym same) h) (and_second (y == x) (covers ys xs) e))
+    (both_ways xs ys (rest_at_most x y (slice_cmp nat_cmp ys xs) (sym same) h) (second_so (y == x) (covers ys xs) e))
 
 -- ---- the walk along the keys in order
 
@@ -135,16 +135,12 @@ walk_along keys k outer apart o q walked there at later =
     step keys k outer apart outer (min apart (max o.row q.row)) q walked at (omega arith) (omega arith)
     (λ a here e. inr (omega arith)) (λ a here. inl refl) (inr (inl (omega arith)))
 
-false_from : (v : Bool) → (v ≡ true → ⊥) → v ≡ false
-false_from true h = absurd (h refl)
-false_from false h = refl
-
 -- a key that isn't covered takes its place too, since the outer one covers no later one
 pub walk_on : (keys : List RowKey) (k outer apart : ℕ) (o q : RowKey) → IsInOrder keys → Walked keys k outer apart → slice_get keys outer ≡ Some o → slice_get keys k ≡ Some q → covers o.text q.text ≡ false → Walked keys (k + 1) k apart
 walk_on keys k outer apart o q order walked there at uncovered =
     step keys k outer apart k apart q walked at (omega arith) (omega arith)
     (λ a here e. absurd (true≢false (sym e ∙ never a here)))
-    (λ a here. inr (inr (λ m b from also. false_from (covers a.text b.text) (λ e. true≢false (sym (beyond a here m b from also e) ∙ never a here)))))
+    (λ a here. inr (inr (λ m b from also. false_from_ne_true (covers a.text b.text) (λ e. true≢false (sym (beyond a here m b from also e) ∙ never a here)))))
     (inl refl)
   where
     never : (a : RowKey) → slice_get keys outer ≡ Some a → covers a.text q.text ≡ false
@@ -158,7 +154,7 @@ walk_on keys k outer apart o q order walked there at uncovered =
 -- at the end of the walk the keys before the bound are apart
 pub walk_ends : (keys : List RowKey) (k outer apart : ℕ) → IsInOrder keys → Walked keys k outer apart → length keys ≤ k → ApartKeys keys apart
 walk_ends keys k outer apart order walked whole = λ i j a b at there before bound.
-    false_from (near a.text b.text) (λ e. elim (or_split (covers a.text b.text) (covers b.text a.text) e) as (λ _. ⊥) [
+    false_from_ne_true (near a.text b.text) (λ e. elim (or_split (covers a.text b.text) (covers b.text a.text) e) as (λ _. ⊥) [
       | inl f ↦ uncovered i j a b at there (omega arith) bound (λ same. absurd (omega arith)) f
       | inr f ↦ uncovered j i b a there at bound (omega arith) (λ same. absurd (omega arith)) f
     ])
@@ -195,8 +191,8 @@ covers_same [] [] h e = refl
 covers_same [] (b ∷ inner) h e = absurd (omega arith)
 covers_same (a ∷ outer) [] h e = absurd (omega arith)
 covers_same (a ∷ outer) (b ∷ inner) h e =
-    and_from (a == b) (covers outer inner) (and_first (a == b) (starts_with nat_eq inner outer) h)
-    (covers_same outer inner (and_second (a == b) (starts_with nat_eq inner outer) h) (omega arith))
+    and_from (a == b) (covers outer inner) (first_so (a == b) (starts_with nat_eq inner outer) h)
+    (covers_same outer inner (second_so (a == b) (starts_with nat_eq inner outer) h) (omega arith))
 
 -- ---- one more key
 

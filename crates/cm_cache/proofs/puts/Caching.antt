@@ -4,6 +4,7 @@ use Rattle.std.specs.BTreeMap.{BTreeMap}
 use Rattle.std.proofs.lemmas.Bool.{le-leb, lt-leb}
 use Rattle.std.proofs.lemmas.List.{get_or_default}
 use Rattle.std.proofs.lemmas.Result.{on_ok_weaker}
+use Rattle.std.proofs.lemmas.Option.{none-some}
 use Rattle.cm_decl.specs.Clashes.{or_else}
 use Rattle.cm_world.specs.declared.route.Walked.{Walked}
 use Rattle.cm_world.specs.Edits.{edit_first}
@@ -11,7 +12,7 @@ use Rattle.cm_cache.specs.declared.answer.CachedAnswer.{CachedAnswer}
 use Rattle.cm_cache.specs.Answers.{most}
 use Rattle.cm_cache.specs.AnswersInside.{answer_of, is_of, kept_at, with_walked, put_in}
 use Rattle.cm_cache.specs.Places.{placed, place_of}
-use Rattle.cm_cache.proofs.puts.Placing.{IsAt, none_some, place_is, unplaced, unfound, place_push, place-edited, set_at_place}
+use Rattle.cm_cache.proofs.puts.Placing.{IsAt, place_is, unplaced, unfound, place_push, place-edited, set_at_place}
 use Rattle.cm_cache.proofs.puts.Putting.{same_use, same_inc, same_path, put_new, put_there}
 
 pub on_err_of : {T E P : Type 0} (r : Result T E) → P → OnErr r P
@@ -20,7 +21,7 @@ on_err_of (Err x) it = it
 
 unfound_answer : (o : Option CachedAnswer) → option_map (λ a. a.walked) o ≡ None → o ≡ None
 unfound_answer None e = refl
-unfound_answer (Some a) e = absurd (none_some a.walked (sym e))
+unfound_answer (Some a) e = absurd (none-some a.walked (sym e))
 
 or_none : (o : Option ℕ) → or_else o None ≡ o
 or_none None = refl

@@ -5,17 +5,12 @@ use Rattle.std.specs.Cmp.Lexicographic.{slice_cmp}
 use Rattle.std.specs.BTreeMap.{BTreeMap, get}
 use Rattle.std.proofs.lemmas.Map.Text.{is_eq-slice_cmp}
 use Rattle.std.proofs.lemmas.Map.Lookups.{exact_unsigned}
+use Rattle.std.proofs.lemmas.Option.{same_Some, none-some}
 use Rattle.cm_decl.specs.Clashes.{or_else}
 use Rattle.cm_world.specs.Edits.{edit_first}
 use Rattle.cm_cache.specs.Places.{place_at, placed, place_of}
 
 -- ---- options
-
-pub some_same : {A : Type 0} (x y : A) → Some x ≡ Some y → x ≡ y
-some_same x y e = cc
-
-pub none_some : {A : Type 0} (x : A) → None ≡ Some x → ⊥
-none_some x e = cc
 
 -- ---- the place of an item
 
@@ -26,10 +21,10 @@ module _ {A : Type 0} (p : A → Bool) where
     pub found : (d : A) → find p xs ≡ Some (get_or xs k d)
 
   before : (x : A) (xs : List A) (o : Option ℕ) (k : ℕ) → p x ≡ false → ((m : ℕ) → o ≡ Some m → IsAt xs m) → option_map (λ n. n + 1) o ≡ Some k → IsAt (x ∷ xs) k
-  before x xs None k fails at e = absurd (none_some k e)
-  before x xs (Some m) zero fails at e = let same : m + 1 ≡ 0 = some_same (m + 1) 0 e in absurd (omega arith)
+  before x xs None k fails at e = absurd (none-some k e)
+  before x xs (Some m) zero fails at e = let same : m + 1 ≡ 0 = same_Some (m + 1) 0 e in absurd (omega arith)
   before x xs (Some m) (suc k) fails at e =
-      let same : m + 1 ≡ suc k = some_same (m + 1) (suc k) e in
+      let same : m + 1 ≡ suc k = same_Some (m + 1) (suc k) e in
       let is : m ≡ k = omega arith in
       let there : IsAt xs k = at k (ap Some is) in
       record {
@@ -39,20 +34,20 @@ module _ {A : Type 0} (p : A → Bool) where
 
   at_by : (t : Bool) (x : A) (xs : List A) (k : ℕ) → p x ≡ t → ((m : ℕ) → place_of p xs ≡ Some m → IsAt xs m) → cond t (Some 0) (option_map (λ n. n + 1) (place_of p xs)) ≡ Some k → IsAt (x ∷ xs) k
   at_by true x xs zero passes at e = record { bound = omega arith; found = λ d. ap (λ t. cond t (Some x) (find p xs)) passes }
-  at_by true x xs (suc k) passes at e = let same : 0 ≡ suc k = some_same 0 (suc k) e in absurd (omega arith)
+  at_by true x xs (suc k) passes at e = let same : 0 ≡ suc k = same_Some 0 (suc k) e in absurd (omega arith)
   at_by false x xs k fails at e = before x xs (place_of p xs) k fails at e
 
   -- the place is that of the item which is found
   pub place_is : (xs : List A) (k : ℕ) → place_of p xs ≡ Some k → IsAt xs k
-  place_is [] k e = absurd (none_some k e)
+  place_is [] k e = absurd (none-some k e)
   place_is (x ∷ xs) k e = at_by (p x) x xs k refl (place_is xs) e
 
   mapped_none : (o : Option ℕ) → option_map (λ n. n + 1) o ≡ None → o ≡ None
   mapped_none None e = refl
-  mapped_none (Some n) e = absurd (none_some (n + 1) (sym e))
+  mapped_none (Some n) e = absurd (none-some (n + 1) (sym e))
 
   unplaced_by : (t : Bool) (x : A) (o : Option ℕ) (found : Option A) → (o ≡ None → found ≡ None) → cond t (Some 0) (option_map (λ n. n + 1) o) ≡ None → cond t (Some x) found ≡ None
-  unplaced_by true x o found later e = absurd (none_some 0 (sym e))
+  unplaced_by true x o found later e = absurd (none-some 0 (sym e))
   unplaced_by false x o found later e = later (mapped_none o e)
 
   -- without a place nothing is found
@@ -61,7 +56,7 @@ module _ {A : Type 0} (p : A → Bool) where
   unplaced (x ∷ xs) e = unplaced_by (p x) x (place_of p xs) (find p xs) (unplaced xs) e
 
   unfound_by : (t : Bool) (x : A) (o : Option ℕ) (found : Option A) → (found ≡ None → o ≡ None) → cond t (Some x) found ≡ None → cond t (Some 0) (option_map (λ n. n + 1) o) ≡ None
-  unfound_by true x o found later e = absurd (none_some x (sym e))
+  unfound_by true x o found later e = absurd (none-some x (sym e))
   unfound_by false x o found later e = ap (option_map (λ n. n + 1)) (later e)
 
   -- and where nothing is found there is no place
@@ -96,20 +91,20 @@ module _ {A : Type 0} (p : A → Bool) where
   -- a write at the place of the item that is found
   module _ (f : A → A) where
     set_before : (x : A) (xs : List A) (o : Option ℕ) (k : ℕ) (y : A) → ((m : ℕ) → o ≡ Some m → y ≡ f (get_or xs m y) → set xs m y ≡ edit_first p f xs) → option_map (λ n. n + 1) o ≡ Some k → y ≡ f (get_or (x ∷ xs) k y) → set (x ∷ xs) k y ≡ x ∷ edit_first p f xs
-    set_before x xs None k y later e is = absurd (none_some k e)
-    set_before x xs (Some m) zero y later e is = let same : m + 1 ≡ 0 = some_same (m + 1) 0 e in absurd (omega arith)
+    set_before x xs None k y later e is = absurd (none-some k e)
+    set_before x xs (Some m) zero y later e is = let same : m + 1 ≡ 0 = same_Some (m + 1) 0 e in absurd (omega arith)
     set_before x xs (Some m) (suc k) y later e is =
-        let same : m + 1 ≡ suc k = some_same (m + 1) (suc k) e in
+        let same : m + 1 ≡ suc k = same_Some (m + 1) (suc k) e in
         let there : m ≡ k = omega arith in
         ap (λ ys. x ∷ ys) (later k (ap Some there) is)
 
     set_by : (t : Bool) (x : A) (xs : List A) (k : ℕ) (y : A) → ((m : ℕ) → place_of p xs ≡ Some m → y ≡ f (get_or xs m y) → set xs m y ≡ edit_first p f xs) → cond t (Some 0) (option_map (λ n. n + 1) (place_of p xs)) ≡ Some k → y ≡ f (get_or (x ∷ xs) k y) → set (x ∷ xs) k y ≡ cond t (f x ∷ xs) (x ∷ edit_first p f xs)
     set_by true x xs zero y later e is = ap (λ z. z ∷ xs) is
-    set_by true x xs (suc k) y later e is = let same : 0 ≡ suc k = some_same 0 (suc k) e in absurd (omega arith)
+    set_by true x xs (suc k) y later e is = let same : 0 ≡ suc k = same_Some 0 (suc k) e in absurd (omega arith)
     set_by false x xs k y later e is = set_before x xs (place_of p xs) k y later e is
 
     pub set_at_place : (xs : List A) (k : ℕ) (y : A) → place_of p xs ≡ Some k → y ≡ f (get_or xs k y) → set xs k y ≡ edit_first p f xs
-    set_at_place [] k y e is = absurd (none_some k e)
+    set_at_place [] k y e is = absurd (none-some k e)
     set_at_place (x ∷ xs) k y e is = set_by (p x) x xs k y (λ m. set_at_place xs m y) e is
 
 -- ---- numbers by the use of an instance

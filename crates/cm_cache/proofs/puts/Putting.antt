@@ -1,8 +1,8 @@
 -- What is kept behind a put.
 use Rattle.std.proofs.Common.{◌≡◌, ℕ, suc, List, [], ◌∷◌, ◌++◌, Bool, true, false, cond, ◌&&◌, ◌||◌, ◌==◌, true≢false, Option, Some, None, find, is_some, length, nat_le, option_map, refl, sym, ◌∙◌, ap, subst, bytes_eq}
-use Rattle.std.specs.Cmp.{unsigned_Decides}
+use Rattle.std.specs.Cmp.{unsigned_Decides, first_so, second_so}
 use Rattle.std.proofs.lemmas.Slice.Eq.{bytes_eq-Decides}
-use Rattle.cm_decl.proofs.Sameness.{and_first, and_second}
+use Rattle.std.proofs.lemmas.Option.{same_Some, none-some}
 use Rattle.cm_world.specs.declared.row.Row.{Row}
 use Rattle.cm_world.specs.declared.frame.Builtin.{Builtin}
 use Rattle.cm_world.specs.declared.route.Start.TheVariants.{UseAt}
@@ -15,7 +15,6 @@ use Rattle.cm_cache.specs.AnswersInside.{answer_of, is_of, kept_at, joined_by, w
 use Rattle.cm_cache.specs.Keeping.{UseKey, has_use}
 use Rattle.cm_cache.specs.Right.{uses_of, AreRight}
 use Rattle.cm_cache.specs.Laws.{WhatIsPutIsKept, UsesAreKept, PutsAddUses, RightAnswers, PutsStayRight, AnswersStayRight}
-use Rattle.cm_cache.proofs.puts.Placing.{some_same, none_some}
 use Rattle.cm_cache.proofs.trees.Staying.{walks_stay}
 
 -- ---- one use
@@ -25,10 +24,10 @@ abbrev pub same_use : ℕ → List ℕ → ℕ → List ℕ → Bool
 same_use i path j other = (i == j) && bytes_eq path other
 
 pub same_inc : (i j : ℕ) (path other : List ℕ) → same_use i path j other ≡ true → i ≡ j
-same_inc i j path other is = (unsigned_Decides i j).0 (and_first (i == j) (bytes_eq path other) is)
+same_inc i j path other is = (unsigned_Decides i j).0 (first_so (i == j) (bytes_eq path other) is)
 
 pub same_path : (i j : ℕ) (path other : List ℕ) → same_use i path j other ≡ true → path ≡ other
-same_path i j path other is = (bytes_eq-Decides path other).0 (and_second (i == j) (bytes_eq path other) is)
+same_path i j path other is = (bytes_eq-Decides path other).0 (second_so (i == j) (bytes_eq path other) is)
 
 itself : (i : ℕ) (path : List ℕ) → same_use i path i path ≡ true
 itself i path =
@@ -172,13 +171,13 @@ puts_add_uses xs i path v none =
 
 right_by : (t : Bool) (rows : List Row) (builtins : List Builtin) (x : CachedAnswer) (o : Option CachedAnswer) (i : ℕ) (path : List ℕ) (v : Walked) → is_of i path x ≡ t → IsWalked rows builtins (UseAt x.inc x.path) x.walked → (walked_in o ≡ Some v → IsWalked rows builtins (UseAt i path) v) → walked_in (cond t (Some x) o) ≡ Some v → IsWalked rows builtins (UseAt i path) v
 right_by true rows builtins x o i path v is here later e =
-    subst (λ z. IsWalked rows builtins (UseAt i path) z) (some_same x.walked v e)
+    subst (λ z. IsWalked rows builtins (UseAt i path) z) (same_Some x.walked v e)
     (subst (λ q. IsWalked rows builtins (UseAt i q) x.walked) (same_path x.inc i x.path path is)
     (subst (λ k. IsWalked rows builtins (UseAt k x.path) x.walked) (same_inc x.inc i x.path path is) here))
 right_by false rows builtins x o i path v is here later e = later e
 
 pub right_answers : RightAnswers
-right_answers rows builtins [] i path v right e = absurd (none_some v e)
+right_answers rows builtins [] i path v right e = absurd (none-some v e)
 right_answers rows builtins (x ∷ xs) i path v right e =
     right_by (is_of i path x) rows builtins x (find (is_of i path) xs) i path v refl right.0 (right_answers rows builtins xs i path v right.1) e
 

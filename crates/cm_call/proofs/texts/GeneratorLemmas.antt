@@ -1,9 +1,11 @@
 -- What a workload is made of, one after the other.
-use Rattle.std.proofs.Common.{◌≡◌, ℕ, zero, suc, ◌+◌, ◌-◌, ◌*◌, ◌/◌, ◌%◌, ◌<◌, ◌≤◌, List, [], ◌∷◌, ◌++◌, All, map, filter, length, get_or, false, cond, ◌==◌, nat_lt, rules, Some, Result, Ok, Err, IfOk, refl, sym, ap, subst, ◌∙◌, arith, append_assoc}
+use Rattle.std.proofs.Common.{◌≡◌, ℕ, zero, suc, ◌+◌, ◌-◌, ◌*◌, ◌/◌, ◌%◌, ◌<◌, ◌≤◌, List, [], ◌∷◌, ◌++◌, All, map, filter, length, get_or, false, cond, ◌==◌, nat_lt, rules, Some, Result, Ok, Err, IfOk, refl, sym, ap, subst, ◌∙◌, arith, append_assoc, map-id}
 use Rattle.std.specs.List.{range_with_len, slice_get}
 use Rattle.std.proofs.lemmas.List.Elements.{All-nil, All-cons}
 use Rattle.std.proofs.lemmas.Option.{slice_get_within, get_or_from_slice_get}
 use Rattle.std.proofs.lemmas.List.FromFn.{map-range_with_len_more, filter_of_map_range_with_len_more, length-map-range_with_len, get_or-map-range_with_len}
+use mathlib.Core.List.{map-map}
+use Rattle.std.proofs.lemmas.Nat.{mod_below}
 use Rattle.cm_names.specs.declared.child.ChildName.{ChildName}
 use Rattle.cm_names.specs.declared.memory.Memory.{Memory}
 use Rattle.cm_names.specs.declared.moniker.Moniker.{Moniker}
@@ -62,28 +64,20 @@ pub made_more : {X : Type 0} (f : ℕ → X) (xs : List X) (x : X) (k : ℕ) →
 made_more f xs x k is one =
     ap (λ l. l ++ x ∷ []) is ∙ ap (λ (y : _). map f (range_with_len 0 k) ++ y ∷ []) one ∙ sym (map-range_with_len_more f 0 k k (omega arith))
 
-map_same : (xs : List ℕ) → map (λ x. x) xs ≡ xs
-map_same [] = refl
-map_same (x ∷ xs) = ap (λ l. x ∷ l) (map_same xs)
-
 -- one more of the numbers that may be children
 pub kids_more : (n k place : ℕ) (kids new : List ℕ) → kids ≡ filter (λ c. nat_lt c n) (range_with_len (k * 4 + 1) place)
     → new ≡ kids ++ cond (nat_lt (k * 4 + 1 + place) n) ((k * 4 + 1 + place) ∷ []) [] → new ≡ filter (λ c. nat_lt c n) (range_with_len (k * 4 + 1) (place + 1))
 kids_more n k place kids new are grown =
-    let numbers : (m : ℕ) → map (λ x. x) (range_with_len (k * 4 + 1) m) ≡ range_with_len (k * 4 + 1) m = λ m. map_same (range_with_len (k * 4 + 1) m) in
+    let numbers : (m : ℕ) → map (λ x. x) (range_with_len (k * 4 + 1) m) ≡ range_with_len (k * 4 + 1) m = λ m. map-id (range_with_len (k * 4 + 1) m) in
     grown ∙ ap (λ (l : List ℕ). l ++ cond (nat_lt (k * 4 + 1 + place) n) ((k * 4 + 1 + place) ∷ []) []) (are ∙ ap (filter (λ c. nat_lt c n)) (sym (numbers place)))
     ∙ sym (filter_of_map_range_with_len_more (λ c. nat_lt c n) (λ x. x) (k * 4 + 1) place (k * 4 + 1 + place) refl)
     ∙ ap (filter (λ c. nat_lt c n)) (numbers (place + 1))
 
 -- ---- draws
 
--- what is drawn is one of them
-draw_low : (x n : ℕ) → 0 < n → x % n < n
-draw_low x n some = omega (arith, some)
-
 pub drawn_low : (n x more : ℕ) → 0 < n → All (λ k. k < n) (drawn n x more)
 drawn_low n x zero some = All-nil (λ k. k < n)
-drawn_low n x (suc more) some = All-cons (λ k. k < n) ((next_of x / 65536) % n) (drawn n (next_of x) more) (draw_low (next_of x / 65536) n some) (drawn_low n (next_of x) more some)
+drawn_low n x (suc more) some = All-cons (λ k. k < n) ((next_of x / 65536) % n) (drawn n (next_of x) more) (mod_below (next_of x / 65536) n some) (drawn_low n (next_of x) more some)
 
 pub drawn_long : (n x more : ℕ) → length (drawn n x more) ≡ more
 drawn_long n x zero = refl
@@ -118,13 +112,9 @@ pub ruleset draws = (drawn_more, drawn_all, drawn_low, drawn_long)
 pub turns_more : (j : ℕ) (c : Command) (cs : List Command) (lines whole : List Line) → lines ++ in_turns j (c ∷ cs) ≡ whole → (lines ++ record { line = 0; lane = j % 4; command = c } ∷ []) ++ in_turns (j + 1) cs ≡ whole
 turns_more j c cs lines whole is = append_assoc lines (record { line = 0; lane = j % 4; command = c } ∷ []) (in_turns (j + 1) cs) ∙ is
 
-map_map : {X Y Z : Type 0} (f : Y → Z) (g : X → Y) (xs : List X) → map f (map g xs) ≡ map (λ x. f (g x)) xs
-map_map f g [] = refl
-map_map f g (x ∷ xs) = ap (λ l. f (g x) ∷ l) (map_map f g xs)
-
 -- each is started where it stands
 pub starts_are : (monikers : List Moniker) (n : ℕ) → monikers ≡ map moniker_of (range_with_len 0 n) → map start_at monikers ≡ map start_of (range_with_len 0 n)
-starts_are monikers n are = ap (map start_at) are ∙ map_map start_at moniker_of (range_with_len 0 n)
+starts_are monikers n are = ap (map start_at) are ∙ map-map start_at moniker_of (range_with_len 0 n)
 
 -- ---- what is asked
 

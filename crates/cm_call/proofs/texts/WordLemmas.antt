@@ -1,5 +1,5 @@
 -- What a parse says of the rows.
-use Rattle.std.proofs.Common.{map, ◌≡◌, ℕ, ◌<◌, ◌≤◌, ◌^◌, Bool, true, false, cond, ◌&&◌, List, [], ◌∷◌, Some, Ok, Err, refl, sym, ap, ◌∙◌, inl, inr, subst}
+use Rattle.std.proofs.Common.{◌≡◌, ℕ, ◌<◌, ◌≤◌, ◌^◌, Bool, true, false, cond, List, [], ◌∷◌, Some, Ok, Err, refl, sym, ap, ◌∙◌, inl, inr, subst}
 use Rattle.std.specs.Str.Parse.{IsNumeral, digits_value, without_leading_plus}
 use Rattle.clap.specs.Walk.{Row, Text}
 use Rattle.clap.specs.Simple.{App, matches_of}
@@ -14,14 +14,6 @@ use Rattle.clap.specs.declared.error.kind.ErrorKind.{ErrorKind}
 use Rattle.clap.specs.declared.error.kind.ErrorKind.TheVariants as kind
 use Rattle.cm_call.specs.Calls.{is_free, number_in, rows_read}
 use Rattle.cm_call.specs.declared.call.WordsFault.TheVariants.{Usage}
-
-pub prefix_true : (a b : Bool) → (a && b) ≡ true → a ≡ true
-prefix_true true b h = refl
-prefix_true false b h = h
-
-pub map-id : {A : Type 0} (xs : List A) → map (λ x. x) xs ≡ xs
-map-id [] = refl
-map-id (x ∷ xs) = ap (λ l. x ∷ l) (map-id xs)
 
 pub rows_ok : (app : App) (words : List Text) (rows : List Row) → fault_of app words ≡ [] → rows ≡ matches_of app words → rows_read app words ≡ Ok rows
 rows_ok app words rows h e = ap (λ ks. cond (is_free ks) (Ok (matches_of app words)) (Err Usage)) h ∙ ap Ok (sym e)

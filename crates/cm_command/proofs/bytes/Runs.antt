@@ -1,19 +1,14 @@
 -- Bytes that pass a test, one behind the other, and texts of bytes below 128.
-use Rattle.std.proofs.Common.{◌≡◌, ◌⊎◌, ℕ, zero, suc, ◌<◌, ◌≤◌, List, [], ◌∷◌, ◌++◌, length, take, get_or, min, Bool, true, true≢false, All, sym, ap, subst, ◌∙◌, arith, length-append}
+use Rattle.std.proofs.Common.{◌≡◌, ◌⊎◌, ℕ, ◌<◌, ◌≤◌, List, ◌++◌, length, take, get_or, min, Bool, true, true≢false, All, sym, ap, subst, ◌∙◌, arith, length-append}
 use Rattle.std.specs.List.{prefix_len}
-use Rattle.std.specs.Str.{IsUtf8, IsAscii}
+use Rattle.std.specs.Str.{IsUtf8}
 use Rattle.std.proofs.lemmas.Str.{IsUtf8-from_ascii}
 use Rattle.std.proofs.lemmas.List.{length-take-le, get_or-take, get_or_append_left}
 use Rattle.std.proofs.lemmas.List.Sums.{prefix_len-le-length, prefix_len_passes, prefix_len_stops}
-
--- bytes below 128 are a text
-ascii_at : (t : List ℕ) → All (λ b. b < 128) t → IsAscii t
-ascii_at [] h i = omega arith
-ascii_at (b ∷ bs) h zero = h 0 0 (omega arith)
-ascii_at (b ∷ bs) h (suc i) = ascii_at bs (λ k d lt. h (suc k) d (omega arith)) i
+use Rattle.std.proofs.lemmas.Str.Ascii.{IsAscii-from_all}
 
 pub ascii_text : (t : List ℕ) → All (λ b. b < 128) t → IsUtf8 t
-ascii_text t h = IsUtf8-from_ascii t (ascii_at t h)
+ascii_text t h = IsUtf8-from_ascii t (IsAscii-from_all t h)
 
 -- the bytes up to the first that fails pass
 pub run_passes : (test : ℕ → Bool) (w : List ℕ) (i : ℕ) → i ≤ prefix_len test w → All (λ b. test b ≡ true) (take i w)

@@ -72,7 +72,3 @@ good_first b bs m n h e f =
 pub split_first : (w : List ℕ) → 1 ≤ length w → w ≡ get_or w 0 0 ∷ take (length w - 1) (drop 1 w)
 split_first [] h = absurd (omega arith)
 split_first (b ∷ bs) h = rw (take_rest (b ∷ bs) 1) refl
-
-pub nil_of : (w : List ℕ) → length w ≡ 0 → w ≡ []
-nil_of [] h = refl
-nil_of (b ∷ bs) h = absurd (omega arith)

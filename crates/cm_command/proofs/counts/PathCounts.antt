@@ -1,6 +1,6 @@
 -- Paths, byte by byte.
 use Rattle.std.proofs.Common.{◌≡◌, ◌⊎◌, inl, inr, ⊎_elim, ℕ, ◌+◌, ◌<◌, ◌≤◌, List, [], ◌∷◌, ◌++◌, length, take, get_or, codes, true, false, true≢false, IsTrue, All, nat_le, ◌&&◌, ◌==◌, not, rules, eqb-true, refl, sym, ap, subst, ◌∙◌, arith, append_assoc, append-nil, length-append}
-use Rattle.std.proofs.lemmas.List.{take_more, length-take-le}
+use Rattle.std.proofs.lemmas.List.{take_more, length-take-le, nil_from_length}
 use Rattle.cm_names.specs.Prefixes.{HasCompletion}
 use Rattle.std.proofs.lemmas.Bool.{and_parts}
 use Rattle.std.specs.List.{list_all, slice_split, join_with_byte}
@@ -13,7 +13,6 @@ use Rattle.cm_command.specs.declared.tokens.PathState.TheVariants.{Slash, Dot, D
 use Rattle.cm_command.specs.PathPlaces.{path_prefix}
 use Rattle.cm_command.specs.Counts.{CountsPrefixes}
 use Rattle.cm_command.proofs.counts.KindLemmas.{IsBehind, counts_stop, counts_all, counts_same, counts_behind}
-use Rattle.cm_command.proofs.counts.NameCounts.{nil_of}
 use Rattle.cm_command.proofs.bytes.Runs.{ascii_text}
 
 -- parts of a path in at most so many bytes
@@ -56,7 +55,7 @@ full w limit i p lt way over =
 pub unended : (w : List ℕ) (limit i : ℕ) (p q : PathState) → i < length w → IsUnderWay w limit i p → ((t : List ℕ) → is_relative (path_prefix p ++ get_or w i 0 ∷ t) ≡ is_relative (path_prefix q ++ t)) → i + 1 ≡ limit → is_relative (path_prefix q) ≡ false → CountsPrefixes (AreParts limit) w (i + 1)
 unended w limit i p q lt way goes last wants =
     let len : length (take (i + 1) w) ≡ i + 1 = length-take-le (i + 1) w (omega arith) in
-    counts_stop w i lt (prefix w limit i p (omega arith) way) (λ more. let none : more.0 ≡ [] = nil_of more.0 (omega (arith, more.1.1, length-append (take (i + 1) w) more.0)) in true≢false (sym more.1.0 ∙ ap is_relative (further_is w more.0 i lt) ∙ way.leads (get_or w i 0 ∷ more.0) ∙ goes more.0 ∙ ap (λ r. is_relative (path_prefix q ++ r)) none ∙ ap is_relative (append-nil (path_prefix q)) ∙ wants))
+    counts_stop w i lt (prefix w limit i p (omega arith) way) (λ more. let none : more.0 ≡ [] = nil_from_length more.0 (omega (arith, more.1.1, length-append (take (i + 1) w) more.0)) in true≢false (sym more.1.0 ∙ ap is_relative (further_is w more.0 i lt) ∙ way.leads (get_or w i 0 ∷ more.0) ∙ goes more.0 ∙ ap (λ r. is_relative (path_prefix q ++ r)) none ∙ ap is_relative (append-nil (path_prefix q)) ∙ wants))
 
 -- the next byte leads on
 pub further : (w : List ℕ) (limit i : ℕ) (p q : PathState) → i < length w → IsUnderWay w limit i p → ((t : List ℕ) → is_relative (path_prefix p ++ get_or w i 0 ∷ t) ≡ is_relative (path_prefix q ++ t)) → i + 1 ≤ limit → (is_relative (path_prefix q) ≡ false → i + 1 < limit) → IsUnderWay w limit (i + 1) q

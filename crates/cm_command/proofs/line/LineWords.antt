@@ -1,5 +1,5 @@
 -- The words of a line, read one by one.
-use Rattle.std.proofs.Common.{◌≡◌, ◌≢◌, inl, inr, ℕ, ◌+◌, ◌-◌, ◌<◌, ◌≤◌, ◌^◌, [], ◌∷◌, ◌++◌, length, ◌==◌, Result, Ok, Err, MatchResult, codes, refl, sym, ap, subst, ◌∙◌, arith, length-append}
+use Rattle.std.proofs.Common.{◌≡◌, ◌≢◌, inl, inr, ℕ, ◌+◌, ◌-◌, ◌<◌, ◌≤◌, ◌^◌, [], ◌∷◌, ◌++◌, length, ◌==◌, Result, Ok, Err, MatchResult, codes, refl, sym, ap, subst, ◌∙◌, arith, length-append, zero-add}
 use Rattle.std.proofs.lemmas.List.Splits.{slice_split_none, slice_split_at}
 use Rattle.cm_names.specs.Prefixes.{HasCompletion, IsLongestPrefix}
 use Rattle.cm_world.specs.declared.frame.Builtin.{Builtin}
@@ -35,15 +35,12 @@ pub record IsUnderWay (from : LineState) (line : LineBytes) (p : LineState) (res
   pub said : SaysText 32 WordLeads EndsLine from line → SaysText 32 WordLeads EndsLine p rest
   pub counts : (n : ℕ) → CountsPrefixes (SaysText 32 WordLeads EndsLine p) rest n → CountsPrefixes (SaysText 32 WordLeads EndsLine from) line (prefix + n)
 
-none_before : (n : ℕ) → n ≡ 0 + n
-none_before n = omega arith
-
 pub at_start : (from : LineState) (line : LineBytes) → IsUnderWay from line from line 0
 at_start from line = record {
   whole = omega arith;
   says = λ s h. h;
   said = λ h. h;
-  counts = λ n h. subst (CountsPrefixes (Line from) line) (none_before n) h;
+  counts = λ n h. subst (CountsPrefixes (Line from) line) (sym (zero-add n)) h;
 }
 
 same_place : (p next a : LineState) (word : LineBytes) → WordLeads p word next → WordLeads p word a → a ≡ next

@@ -1,12 +1,13 @@
 use Rattle.std.proofs.Common.{◌≡◌, List, [], ◌∷◌, ◌++◌, Bool, false, ◌||◌, true≢false, refl, sym, ◌∙◌, ap, subst, IsTrue, inl, inr, ◌⊎◌}
 use Rattle.std.specs.List.{list_any, list_all}
 use Rattle.std.proofs.lemmas.Bool.{or_parts}
+use Rattle.std.specs.Cmp.{first_so, second_so}
 use Rattle.cm_decl.specs.declared.node.Node.{Node}
 use Rattle.cm_decl.specs.Same.{same_node}
 use Rattle.cm_decl.specs.NodeOrder.{node_at_most}
 use Rattle.cm_decl.specs.Cycle.{InCore, IsLeast, NextInCore, IsPickedCycle}
 use Rattle.cm_decl.specs.Reach.{DependencyPath, Reaches}
-use Rattle.cm_decl.proofs.Sameness.{and_first, and_second, same_node-refl}
+use Rattle.cm_decl.proofs.Sameness.{same_node-refl}
 
 -- the order of nodes tells them apart
 abbrev pub IsStrict : Type 0
@@ -23,7 +24,7 @@ pub follows_once : IsStrict → (edge : Node → Node → Bool) (x y z : Node) �
 follows_once strict edge x y z first second = least_once strict (λ v. InCore edge v × IsTrue (edge x v)) y z first second
 
 head_passes : (p : Node → Bool) (x : Node) (xs : List Node) → IsTrue (list_all p (x ∷ xs)) → IsTrue (p x) × IsTrue (list_all p xs)
-head_passes p x xs h = (and_first (p x) (list_all p xs) h, and_second (p x) (list_all p xs) h)
+head_passes p x xs h = (first_so (p x) (list_all p xs) h, second_so (p x) (list_all p xs) h)
 
 move_start : (edge : Node → Node → Bool) (x y : Node) (ys : List Node) (u : Node) → x ≡ y → DependencyPath (On edge) x ys u → DependencyPath (On edge) y ys u
 move_start edge x y ys u e way = subst (λ z. DependencyPath (On edge) z ys u) e way

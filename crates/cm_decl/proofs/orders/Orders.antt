@@ -10,14 +10,15 @@ use Rattle.cm_decl.specs.RealmGraph.{Directly}
 use Rattle.cm_decl.specs.Graph.{is_node, is_from_node, sources_of, StrongOn}
 use Rattle.cm_decl.specs.GraphInside.{IsTopologicalOrder, realm}
 use Rattle.std.specs.List.{list_any}
-use Rattle.cm_decl.proofs.Sameness.{and_first, and_second, same_node_exact}
+use Rattle.std.specs.Cmp.{first_so, second_so}
+use Rattle.cm_decl.proofs.Sameness.{same_node_exact}
 
 -- the two ends of a strong edge are nodes
 pub edge_nodes : (d : Decl) (dynamic : List DynChild) (x y : Node) → StrongOn d dynamic x y → IsTrue (is_node d dynamic x) × IsTrue (is_node d dynamic y)
 edge_nodes d dynamic x y h =
     let by : Bool = list_any (is_from_node y) (sources_of d dynamic x) in (
-      and_second by (is_node d dynamic x) (and_first (by && is_node d dynamic x) (is_node d dynamic y) h),
-      and_second (by && is_node d dynamic x) (is_node d dynamic y) h,
+      second_so by (is_node d dynamic x) (first_so (by && is_node d dynamic x) (is_node d dynamic y) h),
+      second_so (by && is_node d dynamic x) (is_node d dynamic y) h,
     )
 
 -- so are those of an implied one

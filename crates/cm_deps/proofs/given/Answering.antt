@@ -8,6 +8,7 @@ use Rattle.std.proofs.lemmas.List.Sums.{fails_before_first}
 use Rattle.std.proofs.lemmas.Bool.{cases_lt}
 use borrow.Author.Tests.{ltb-true, lt-ltb}
 use Rattle.std.proofs.lemmas.Bool.{and_from as and_pair}
+use Rattle.std.specs.Cmp.{first_so, second_so}
 use Rattle.cm_decl.specs.declared.decl.Decl.{Decl}
 use Rattle.cm_decl.specs.declared.rows.Give.{Give}
 use Rattle.cm_decl.specs.declared.node.DynChild.{DynChild}
@@ -20,7 +21,7 @@ use Rattle.cm_decl.specs.RealmGraph.{Directly}
 use Rattle.cm_decl.specs.Graph.{is_node, is_from_node}
 use Rattle.cm_decl.specs.GraphInside.{realm, DependsOn, WouldDirectly, WouldDepend}
 use Rattle.cm_decl.proofs.orders.Orders.{direct_nodes}
-use Rattle.cm_decl.proofs.Sameness.{and_first, and_second, or_split, same_node-refl, same_node_exact}
+use Rattle.cm_decl.proofs.Sameness.{or_split, same_node-refl, same_node_exact}
 use Rattle.cm_deps.specs.Edges.{holds, row}
 use Rattle.cm_deps.specs.Nodes.{at, IsNodes, IsNodeNumber}
 use Rattle.cm_deps.specs.Sources.{is_source, strong_sources, offers_of}
@@ -152,11 +153,11 @@ pub would_offer : (d : Decl) (dynamic : List DynChild) (coll : List ℕ) (gives 
 would_offer d dynamic coll gives nodes reached numbers y to sorted is lists there h =
     let found : (i : ℕ) × ((q : ℕ → Bool) → IsTrue (q i) → IsTrue (list_any q numbers)) × IsTrue (leads_to reached to i) = any_some (leads_to reached to) numbers h in
     let both : IsTrue (nat_lt found.0 (length nodes) && list_any (is_from_node (at nodes found.0)) (strong_sources (offers_of d.offers coll))) = sym (lists found.0) ∙ found.1 (nat_eq found.0) (nat_eq-refl found.0) in
-    let low : found.0 < length nodes = ltb-true found.0 (length nodes) (and_first (nat_lt found.0 (length nodes)) (list_any (is_from_node (at nodes found.0)) (strong_sources (offers_of d.offers coll))) both) in
+    let low : found.0 < length nodes = ltb-true found.0 (length nodes) (first_so (nat_lt found.0 (length nodes)) (list_any (is_from_node (at nodes found.0)) (strong_sources (offers_of d.offers coll))) both) in
     record {
       first = at nodes found.0;
       direct = inl (and_pair (list_any (is_from_node (at nodes found.0)) (strong_sources (offers_of d.offers coll ++ gives))) (is_node d dynamic (at nodes found.0))
-          (sources_of_both d coll gives (at nodes found.0) ∙ or_left (list_any (is_from_node (at nodes found.0)) (strong_sources (offers_of d.offers coll))) (list_any (is_from_node (at nodes found.0)) (strong_sources gives)) (and_second (nat_lt found.0 (length nodes)) (list_any (is_from_node (at nodes found.0)) (strong_sources (offers_of d.offers coll))) both))
+          (sources_of_both d coll gives (at nodes found.0) ∙ or_left (list_any (is_from_node (at nodes found.0)) (strong_sources (offers_of d.offers coll))) (list_any (is_from_node (at nodes found.0)) (strong_sources gives)) (second_so (nat_lt found.0 (length nodes)) (list_any (is_from_node (at nodes found.0)) (strong_sources (offers_of d.offers coll))) both))
           (node_of_number d dynamic nodes sorted found.0 low));
       onward = leads_onward d dynamic nodes reached y found.0 to is low there found.2;
     }
@@ -197,9 +198,9 @@ would_split d dynamic coll gives nodes reached numbers y to sorted is lists ther
 
     by : (x : Node) → WouldDirectly d dynamic coll gives x → Onward d dynamic x y → IsTrue (leads_to reached to 0) ⊎ (IsTrue (list_any (leads_to reached to) numbers) ⊎ IsTrue (list_any (source_leads nodes reached to) (strong_sources gives)))
     by x (inl both) onward =
-        let has : IsTrue (is_node d dynamic x) = and_second (list_any (is_from_node x) (strong_sources (offers_of d.offers coll ++ gives))) (is_node d dynamic x) both in
+        let has : IsTrue (is_node d dynamic x) = second_so (list_any (is_from_node x) (strong_sources (offers_of d.offers coll ++ gives))) (is_node d dynamic x) both in
         let place : (i : ℕ) × (i < length nodes) × (at nodes i ≡ x) = found_at x nodes (sorted.all x ∙ has) in
-        let either : IsTrue (list_any (is_from_node x) (strong_sources (offers_of d.offers coll)) || list_any (is_from_node x) (strong_sources gives)) = sym (sources_of_both d coll gives x) ∙ and_first (list_any (is_from_node x) (strong_sources (offers_of d.offers coll ++ gives))) (is_node d dynamic x) both in
+        let either : IsTrue (list_any (is_from_node x) (strong_sources (offers_of d.offers coll)) || list_any (is_from_node x) (strong_sources gives)) = sym (sources_of_both d coll gives x) ∙ first_so (list_any (is_from_node x) (strong_sources (offers_of d.offers coll ++ gives))) (is_node d dynamic x) both in
         elim (or_split (list_any (is_from_node x) (strong_sources (offers_of d.offers coll))) (list_any (is_from_node x) (strong_sources gives)) either) as (λ _. IsTrue (leads_to reached to 0) ⊎ (IsTrue (list_any (leads_to reached to) numbers) ⊎ IsTrue (list_any (source_leads nodes reached to) (strong_sources gives)))) [
           | inl h ↦ inr (inl (offered x place onward h))
           | inr h ↦ inr (inr (given x place onward h))
@@ -213,7 +214,7 @@ pub would_none : (d : Decl) (dynamic : List DynChild) (coll : List ℕ) (gives :
 would_none d dynamic coll gives y would = by would.first would.direct would.onward
   where
     has : (x : Node) → WouldDirectly d dynamic coll gives x → IsTrue (is_node d dynamic x)
-    has x (inl both) = and_second (list_any (is_from_node x) (strong_sources (offers_of d.offers coll ++ gives))) (is_node d dynamic x) both
+    has x (inl both) = second_so (list_any (is_from_node x) (strong_sources (offers_of d.offers coll ++ gives))) (is_node d dynamic x) both
     has x (inr own) = subst (λ v. IsTrue (is_node d dynamic v)) (sym own) refl
 
     by : (x : Node) → WouldDirectly d dynamic coll gives x → Onward d dynamic x y → IsTrue (is_node d dynamic y)

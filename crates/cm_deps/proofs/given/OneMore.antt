@@ -4,6 +4,7 @@ use Rattle.std.specs.List.{list_any}
 use Rattle.std.proofs.lemmas.List.{map-append}
 use Rattle.std.proofs.lemmas.List.Folds.{list_any-append}
 use Rattle.std.proofs.lemmas.Bool.{and_from as and_pair, or_parts}
+use Rattle.std.specs.Cmp.{first_so, second_so}
 use Rattle.cm_names.specs.declared.child.ChildName.{ChildName}
 use Rattle.cm_decl.specs.declared.decl.Decl.{Decl}
 use Rattle.cm_decl.specs.declared.node.DynChild.{DynChild}
@@ -15,7 +16,7 @@ use Rattle.cm_decl.specs.Reach.{Reaches, NoCycle}
 use Rattle.cm_decl.specs.Graph.{is_node, nodes, static_node, dynamic_node, is_from_node, sources_of, child_sources, gives_of, offers_to, StrongOn}
 use Rattle.cm_decl.specs.GraphInside.{realm, DependsOn, WouldDirectly, WouldDepend}
 use Rattle.cm_decl.proofs.orders.Orders.{edge_nodes}
-use Rattle.cm_decl.proofs.Sameness.{and_first, and_second, or_split, same_node-refl, same_node_exact}
+use Rattle.cm_decl.proofs.Sameness.{or_split, same_node-refl, same_node_exact}
 use Rattle.cm_deps.specs.Laws.{IsFurther}
 use Rattle.cm_deps.specs.Sources.{strong_sources, offers_of}
 use Rattle.cm_deps.proofs.listed.Listing.{or_left, or_right}
@@ -63,8 +64,8 @@ unused_edge d dynamic collection k is z y edge same = true≢false (sym (subst (
 edge_old : (d : Decl) (dynamic : List DynChild) (collection : List ℕ) (k : DynChild) → IsFurther d dynamic collection k → (x y : Node) → (x ≡ Child k.name → ⊥) → StrongOn d (dynamic ++ k ∷ []) x y → StrongOn d dynamic x y
 edge_old d dynamic collection k is x y apart edge =
     let ends : IsTrue (is_node d (dynamic ++ k ∷ []) x) × IsTrue (is_node d (dynamic ++ k ∷ []) y) = edge_nodes d (dynamic ++ k ∷ []) x y edge in
-    let from : IsTrue (list_any (is_from_node y) (sources_of d (dynamic ++ k ∷ []) x)) = and_first (list_any (is_from_node y) (sources_of d (dynamic ++ k ∷ []) x)) (is_node d (dynamic ++ k ∷ []) x)
-    (and_first (list_any (is_from_node y) (sources_of d (dynamic ++ k ∷ []) x) && is_node d (dynamic ++ k ∷ []) x) (is_node d (dynamic ++ k ∷ []) y) edge) in
+    let from : IsTrue (list_any (is_from_node y) (sources_of d (dynamic ++ k ∷ []) x)) = first_so (list_any (is_from_node y) (sources_of d (dynamic ++ k ∷ []) x)) (is_node d (dynamic ++ k ∷ []) x)
+    (first_so (list_any (is_from_node y) (sources_of d (dynamic ++ k ∷ []) x) && is_node d (dynamic ++ k ∷ []) x) (is_node d (dynamic ++ k ∷ []) y) edge) in
     and_pair (list_any (is_from_node y) (sources_of d dynamic x) && is_node d dynamic x) (is_node d dynamic y)
     (and_pair (list_any (is_from_node y) (sources_of d dynamic x)) (is_node d dynamic x) (subst (λ l. IsTrue (list_any (is_from_node y) l)) (given_other d dynamic k x apart) from) (new_node d dynamic k x apart ends.0))
     (new_node d dynamic k y (unused_edge d dynamic collection k is x y edge) ends.1)
@@ -72,8 +73,8 @@ edge_old d dynamic collection k is x y apart edge =
 edge_new : (d : Decl) (dynamic : List DynChild) (collection : List ℕ) (k : DynChild) → IsFurther d dynamic collection k → (x y : Node) → StrongOn d dynamic x y → StrongOn d (dynamic ++ k ∷ []) x y
 edge_new d dynamic collection k is x y edge =
     let ends : IsTrue (is_node d dynamic x) × IsTrue (is_node d dynamic y) = edge_nodes d dynamic x y edge in
-    let from : IsTrue (list_any (is_from_node y) (sources_of d dynamic x)) = and_first (list_any (is_from_node y) (sources_of d dynamic x)) (is_node d dynamic x)
-    (and_first (list_any (is_from_node y) (sources_of d dynamic x) && is_node d dynamic x) (is_node d dynamic y) edge) in
+    let from : IsTrue (list_any (is_from_node y) (sources_of d dynamic x)) = first_so (list_any (is_from_node y) (sources_of d dynamic x)) (is_node d dynamic x)
+    (first_so (list_any (is_from_node y) (sources_of d dynamic x) && is_node d dynamic x) (is_node d dynamic y) edge) in
     and_pair (list_any (is_from_node y) (sources_of d (dynamic ++ k ∷ []) x) && is_node d (dynamic ++ k ∷ []) x) (is_node d (dynamic ++ k ∷ []) y)
     (and_pair (list_any (is_from_node y) (sources_of d (dynamic ++ k ∷ []) x)) (is_node d (dynamic ++ k ∷ []) x) (subst (λ l. IsTrue (list_any (is_from_node y) l)) (sym (given_other d dynamic k x (node_apart d dynamic collection k is x ends.0))) from) (old_node d dynamic k x ends.0))
     (old_node d dynamic k y ends.1)
@@ -141,8 +142,8 @@ its_sources d dynamic collection k is =
 
 first_would : (d : Decl) (dynamic : List DynChild) (collection : List ℕ) (k : DynChild) → IsFurther d dynamic collection k → (y : Node) → Directly (after d dynamic k) (Child k.name) y → WouldDirectly d dynamic collection k.gives y
 first_would d dynamic collection k is y (inl edge) =
-    let from : IsTrue (list_any (is_from_node y) (sources_of d (dynamic ++ k ∷ []) (Child k.name))) = and_first (list_any (is_from_node y) (sources_of d (dynamic ++ k ∷ []) (Child k.name))) (is_node d (dynamic ++ k ∷ []) (Child k.name))
-    (and_first (list_any (is_from_node y) (sources_of d (dynamic ++ k ∷ []) (Child k.name)) && is_node d (dynamic ++ k ∷ []) (Child k.name)) (is_node d (dynamic ++ k ∷ []) y) edge) in
+    let from : IsTrue (list_any (is_from_node y) (sources_of d (dynamic ++ k ∷ []) (Child k.name))) = first_so (list_any (is_from_node y) (sources_of d (dynamic ++ k ∷ []) (Child k.name))) (is_node d (dynamic ++ k ∷ []) (Child k.name))
+    (first_so (list_any (is_from_node y) (sources_of d (dynamic ++ k ∷ []) (Child k.name)) && is_node d (dynamic ++ k ∷ []) (Child k.name)) (is_node d (dynamic ++ k ∷ []) y) edge) in
     inl (and_pair (list_any (is_from_node y) (child_sources d (record { coll = Some collection; name = [] }) k.gives)) (is_node d dynamic y)
     (subst (λ l. IsTrue (list_any (is_from_node y) l)) (its_sources d dynamic collection k is) from)
     (new_node d dynamic k y (unused_edge d dynamic collection k is (Child k.name) y edge) (edge_nodes d (dynamic ++ k ∷ []) (Child k.name) y edge).1))
@@ -150,10 +151,10 @@ first_would d dynamic collection k is y (inr implied) = inr implied.own
 
 would_first : (d : Decl) (dynamic : List DynChild) (collection : List ℕ) (k : DynChild) → IsFurther d dynamic collection k → NoCycle (StrongOn d dynamic) → (y : Node) → WouldDirectly d dynamic collection k.gives y → Directly (after d dynamic k) (Child k.name) y
 would_first d dynamic collection k is acyclic y (inl both) =
-    let from : IsTrue (list_any (is_from_node y) (child_sources d (record { coll = Some collection; name = [] }) k.gives)) = and_first (list_any (is_from_node y) (child_sources d (record { coll = Some collection; name = [] }) k.gives)) (is_node d dynamic y) both in
+    let from : IsTrue (list_any (is_from_node y) (child_sources d (record { coll = Some collection; name = [] }) k.gives)) = first_so (list_any (is_from_node y) (child_sources d (record { coll = Some collection; name = [] }) k.gives)) (is_node d dynamic y) both in
     inl (and_pair (list_any (is_from_node y) (sources_of d (dynamic ++ k ∷ []) (Child k.name)) && is_node d (dynamic ++ k ∷ []) (Child k.name)) (is_node d (dynamic ++ k ∷ []) y)
     (and_pair (list_any (is_from_node y) (sources_of d (dynamic ++ k ∷ []) (Child k.name))) (is_node d (dynamic ++ k ∷ []) (Child k.name)) (subst (λ l. IsTrue (list_any (is_from_node y) l)) (sym (its_sources d dynamic collection k is)) from) (its_node d dynamic k))
-    (old_node d dynamic k y (and_second (list_any (is_from_node y) (child_sources d (record { coll = Some collection; name = [] }) k.gives)) (is_node d dynamic y) both)))
+    (old_node d dynamic k y (second_so (list_any (is_from_node y) (child_sources d (record { coll = Some collection; name = [] }) k.gives)) (is_node d dynamic y) both)))
 would_first d dynamic collection k is acyclic y (inr own) = inr (record {
   acyclic = acyclic_new d dynamic collection k is acyclic;
   node = its_node d dynamic k;

@@ -1,8 +1,8 @@
-use Rattle.std.proofs.Common.{◌≡◌, ℕ, ◌+◌, ◌<◌, ◌≤◌, List, [], ◌∷◌, ◌++◌, length, take, Bool, true, false, ◌&&◌, ◌||◌, true≢false, refl, sym, ◌∙◌, ap, subst, IsTrue, inl, inr, arith, get_or, nat_eq, Some, Result, Ok, Err, bytes_eq, append-nil, append_assoc, set, ◌≢◌}
-use Rattle.std.specs.Prelude.{map, filter, flat_map, nat_lt, OnOk, IfOk, if◌then◌else◌}
+use Rattle.std.proofs.Common.{◌≡◌, ℕ, ◌+◌, ◌<◌, ◌≤◌, List, [], ◌∷◌, ◌++◌, length, take, Bool, true, false, ◌&&◌, ◌||◌, true≢false, refl, sym, ◌∙◌, ap, subst, IsTrue, inl, inr, arith, get_or, nat_eq, Some, bytes_eq, append-nil, append_assoc, set, ◌≢◌}
+use Rattle.std.specs.Prelude.{map, filter, flat_map, nat_lt, if◌then◌else◌}
 use Rattle.std.specs.List.{list_any}
 use Rattle.std.specs.Option.{option_eq}
-use Rattle.std.specs.Cmp.{both_ways}
+use Rattle.std.specs.Cmp.{both_ways, first_so, second_so}
 use Rattle.std.proofs.Math.Bool.{and-false, or-false, or_assoc, and-or_distrib_left}
 use Rattle.std.proofs.lemmas.Bool.{cases_lt}
 use Rattle.std.proofs.lemmas.List.{take_all, take_more, get_or_append_left, length-set}
@@ -23,7 +23,7 @@ use Rattle.cm_decl.specs.declared.node.DynChild.{DynChild}
 use Rattle.cm_decl.specs.declared.origin.Origin.{Origin}
 use Rattle.cm_decl.specs.Same.{same_node, same_child}
 use Rattle.cm_decl.specs.Graph.{node_of, is_from_node, is_strong, sources_of, child_sources, gives_of, offers_to, target_of}
-use Rattle.cm_decl.proofs.Sameness.{and_first, and_second, same_node-refl, same_node_exact, same_child_exact}
+use Rattle.cm_decl.proofs.Sameness.{same_node-refl, same_node_exact, same_child_exact}
 use Rattle.cm_deps.specs.Edges.{holds, row}
 use Rattle.cm_deps.specs.Nodes.{at, IsIncreasing, IsNodeNumber}
 use Rattle.cm_deps.specs.Sources.{is_source, Lists, ListsMore, IsEdges, strong_sources, offers_of}
@@ -45,8 +45,8 @@ source_absent nodes source x some absent j = source_node nodes source x some j �
   where
     by : (b : Bool) → (nat_lt j (length nodes) && same_node x (at nodes j)) ≡ b → b ≡ false
     by true h =
-        let low : j < length nodes = ltb-true j (length nodes) (and_first (nat_lt j (length nodes)) (same_node x (at nodes j)) h) in
-        let same : x ≡ at nodes j = same_node_exact x (at nodes j) (and_second (nat_lt j (length nodes)) (same_node x (at nodes j)) h) in
+        let low : j < length nodes = ltb-true j (length nodes) (first_so (nat_lt j (length nodes)) (same_node x (at nodes j)) h) in
+        let same : x ≡ at nodes j = same_node_exact x (at nodes j) (second_so (nat_lt j (length nodes)) (same_node x (at nodes j)) h) in
         absurd (true≢false (sym (at_found x nodes j low (sym same)) ∙ absent))
     by false h = refl
 
@@ -55,8 +55,8 @@ pub source_number : (nodes : List Node) (source : Origin) (x : Node) (i : ℕ) �
 source_number nodes source x i increasing some is j = both_ways (nat_eq j i) (nat_lt j (length nodes) && same_node x (at nodes j))
     (λ h. subst (λ k. IsTrue (nat_lt k (length nodes) && same_node x (at nodes k))) (sym (same_nat j i h))
     (and_pair (nat_lt i (length nodes)) (same_node x (at nodes i)) (lt-ltb i (length nodes) is.inside) (subst (λ v. IsTrue (same_node x v)) (sym is.there) (same_node-refl x))))
-    (λ h. (let low : j < length nodes = ltb-true j (length nodes) (and_first (nat_lt j (length nodes)) (same_node x (at nodes j)) h) in
-    let same : x ≡ at nodes j = same_node_exact x (at nodes j) (and_second (nat_lt j (length nodes)) (same_node x (at nodes j)) h) in
+    (λ h. (let low : j < length nodes = ltb-true j (length nodes) (first_so (nat_lt j (length nodes)) (same_node x (at nodes j)) h) in
+    let same : x ≡ at nodes j = same_node_exact x (at nodes j) (second_so (nat_lt j (length nodes)) (same_node x (at nodes j)) h) in
     let one : j ≡ i = number_once nodes (increasing_keys nodes increasing) j i low is.inside (sym same ∙ sym is.there) in
     subst (λ k. IsTrue (nat_eq j k)) one (nat_eq-refl j))) ∙ sym (source_node nodes source x some j)
 
@@ -118,14 +118,6 @@ pub more_all : {A : Type 0} (passes : A → Bool) (source : A → Origin) (nodes
 more_all passes source nodes rows i first new low so_far = subst (λ l. ListsMore nodes (passing passes source l) first new) (take_all i rows low) so_far
 
 -- ---- results
-
-pub on_ok : {T E : Type 0} (r : Result T E) (P Q : Type 0) → (P → Q) → OnOk r P → OnOk r Q
-on_ok (Ok x) P Q step p = step p
-on_ok (Err e) P Q step p = tt
-
-pub if_ok : {T E : Type 0} (r : Result T E) (P Q : T → Type 0) → ((x : T) → P x → Q x) → IfOk r P → IfOk r Q
-if_ok (Ok x) P Q step p = step x p
-if_ok (Err e) P Q step p = tt
 
 -- one row more
 pub rows_more : (P : ℕ → List ℕ → Type 0) (rows : List (List ℕ)) (n : ℕ) (new : List ℕ) → length rows ≡ n → ((i : ℕ) → i < n → P i (row rows i)) → P n new → (i : ℕ) → i < n + 1 → P i (row (rows ++ new ∷ []) i)

@@ -2,12 +2,13 @@ use Rattle.std.proofs.Common.{◌≡◌, ℕ, zero, suc, ◌<◌, List, [], ◌�
 use Rattle.std.specs.Prelude.{map, filter, slice_get, if◌then◌else◌}
 use Rattle.std.proofs.lemmas.List.Sums.{length-filter}
 use Rattle.std.proofs.lemmas.Bool.{and_from, not-true, not_from_false}
+use Rattle.std.specs.Cmp.{first_so, second_so}
 use Rattle.cm_decl.specs.declared.node.Node.{Node}
 use Rattle.cm_decl.specs.Same.{same_node}
 use Rattle.cm_decl.specs.Reach.{DependencyPath, Reaches}
 use Rattle.cm_decl.specs.RealmGraph.{RealmGraph, Strong, Directly}
 use Rattle.cm_decl.specs.GraphInside.{IsTopologicalOrder}
-use Rattle.cm_decl.proofs.Sameness.{and_first, and_second, or_split, same_node-refl, same_node_exact}
+use Rattle.cm_decl.proofs.Sameness.{or_split, same_node-refl, same_node_exact}
 use Rattle.cm_decl.proofs.cycles.Reaching.{Reaches-trans}
 use Rattle.cm_deps.specs.Edges.{holds, On, IsBelow, IsReverseTopological, IsToposorted, IsReach, Waits}
 use Rattle.cm_deps.specs.Ring.{Once}
@@ -28,8 +29,8 @@ full_listed after reached full first order some below reach is grown all toposor
 
     onward : (i : ℕ) → IsTrue (holds first i && not (holds order i)) → (y : ℕ) × On full i y × (holds order y ≡ false)
     onward i is_left =
-        let low : i < length after = listed_low i (and_first (holds first i) (not (holds order i)) is_left) in
-        let waits : Waits full order i = toposorted.rest i (omega (arith, is.size)) (not-true (holds order i) (and_second (holds first i) (not (holds order i)) is_left)) in
+        let low : i < length after = listed_low i (first_so (holds first i) (not (holds order i)) is_left) in
+        let waits : Waits full order i = toposorted.rest i (omega (arith, is.size)) (not-true (holds order i) (second_so (holds first i) (not (holds order i)) is_left)) in
         (waits.0, waits.1, waits.2)
 
     stays : (i y : ℕ) → On after i y → holds order y ≡ false → IsTrue (holds first y && not (holds order y))
@@ -43,8 +44,8 @@ full_listed after reached full first order some below reach is grown all toposor
 
     near_supported : (i : ℕ) → IsTrue ((nat_eq i 0 || holds reached i) && (holds first i && not (holds order i))) → (y : ℕ) × IsTrue ((nat_eq y 0 || holds reached y) && (holds first y && not (holds order y))) × On after i y
     near_supported i here =
-        let close : IsTrue (nat_eq i 0 || holds reached i) = and_first (nat_eq i 0 || holds reached i) (holds first i && not (holds order i)) here in
-        let next : (y : ℕ) × On full i y × (holds order y ≡ false) = onward i (and_second (nat_eq i 0 || holds reached i) (holds first i && not (holds order i)) here) in
+        let close : IsTrue (nat_eq i 0 || holds reached i) = first_so (nat_eq i 0 || holds reached i) (holds first i && not (holds order i)) here in
+        let next : (y : ℕ) × On full i y × (holds order y ≡ false) = onward i (second_so (nat_eq i 0 || holds reached i) (holds first i && not (holds order i)) here) in
         elim (is.only i next.0 next.1) as (λ _. (y : ℕ) × IsTrue ((nat_eq y 0 || holds reached y) && (holds first y && not (holds order y))) × On after i y) [
           | inl on ↦ (next.0, and_from (nat_eq next.0 0 || holds reached next.0) (holds first next.0 && not (holds order next.0)) (near_on i next.0 close on) (stays i next.0 on next.2), on)
           | inr far ↦ absurd (elim (or_split (nat_eq i 0) (holds reached i) close) as (λ _. ⊥) [

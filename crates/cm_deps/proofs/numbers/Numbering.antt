@@ -3,13 +3,14 @@ use Rattle.std.specs.Prelude.{map}
 use Rattle.std.specs.List.{list_any, list_all}
 use Rattle.std.specs.Ordering.{is_le, ordering_reverse}
 use Rattle.std.proofs.lemmas.Bool.{cases_lt, not-true}
+use Rattle.std.specs.Cmp.{first_so, second_so}
 use Rattle.cm_decl.specs.declared.node.Node.{Node}
 use Rattle.cm_decl.specs.Same.{same_node}
 use Rattle.cm_decl.specs.NodeOrder.{node_cmp, node_at_most}
 use Rattle.cm_decl.specs.NodeOrderInside.{node_cmp_total}
 use Rattle.cm_decl.specs.Reach.{DependencyPath, Reaches}
 use Rattle.cm_decl.specs.Cycle.{InCore, IsLeast, NextInCore, IsPickedCycle}
-use Rattle.cm_decl.proofs.Sameness.{and_first, and_second, or_split, same_node-refl, same_node_exact}
+use Rattle.cm_decl.proofs.Sameness.{or_split, same_node-refl, same_node_exact}
 use Rattle.cm_deps.specs.Edges.{holds, On, IsBelow, IsToposorted, Waits}
 use Rattle.cm_deps.specs.Ring.{LeadsToLeast, IsFirstLeft, IsRing}
 pub use Rattle.cm_deps.specs.Nodes.{at}
@@ -73,7 +74,7 @@ pub left_number : (nodes : List Node) (listed : ℕ → Bool) (x : Node) → IsT
 unfolding left_of
 left_number [] listed x h = absurd (true≢false (sym h))
 left_number (y ∷ ys) listed x h = elim (or_split (same_node y x && not (listed 0)) (left_of ys (λ i. listed (suc i)) x) h) as (λ _. (i : ℕ) × (i < length (y ∷ ys)) × (at (y ∷ ys) i ≡ x) × (listed i ≡ false)) [
-  | inl here ↦ (0, omega arith, same_node_exact y x (and_first (same_node y x) (not (listed 0)) here), not-true (listed 0) (and_second (same_node y x) (not (listed 0)) here))
+  | inl here ↦ (0, omega arith, same_node_exact y x (first_so (same_node y x) (not (listed 0)) here), not-true (listed 0) (second_so (same_node y x) (not (listed 0)) here))
   | inr there ↦ (let rest : (i : ℕ) × (i < length ys) × (at ys i ≡ x) × (listed (suc i) ≡ false) = left_number ys (λ i. listed (suc i)) x there in (suc rest.0, omega arith, rest.2, rest.3))
 ]
 

@@ -4,6 +4,7 @@ use Rattle.std.specs.List.{list_any}
 use Rattle.std.proofs.lemmas.Bool.{cases_lt}
 use borrow.Author.Tests.{ltb-true, lt-ltb}
 use Rattle.std.proofs.lemmas.Bool.{and_from as and_pair}
+use Rattle.std.specs.Cmp.{first_so, second_so}
 use Rattle.cm_decl.specs.declared.decl.Decl.{Decl}
 use Rattle.cm_decl.specs.declared.node.DynChild.{DynChild}
 use Rattle.cm_decl.specs.declared.node.Node.{Node}
@@ -11,7 +12,6 @@ use Rattle.cm_decl.specs.declared.node.Node.TheVariants.{Own, Child}
 use Rattle.cm_decl.specs.NodeOrder.{node_cmp}
 use Rattle.cm_decl.specs.Graph.{is_node, is_from_node, sources_of, is_strong_edge}
 use Rattle.cm_decl.specs.GraphInside.{realm}
-use Rattle.cm_decl.proofs.Sameness.{and_first, and_second}
 use Rattle.cm_deps.specs.Edges.{On}
 use Rattle.cm_deps.specs.Nodes.{at, IsNodes}
 use Rattle.cm_deps.specs.Sources.{IsEdges}
@@ -62,14 +62,14 @@ realm_of d dynamic nodes rows is edges = record {
         let inside : i < length rows = held_inside rows i j on in
         let low : i < length nodes = omega (arith, edges.size) in
         let both : IsTrue (nat_lt j (length nodes) && list_any (is_from_node (at nodes j)) (sources_of d dynamic (at nodes i))) = sym (edges.sources i low j) ∙ on in
-        (low, ltb-true j (length nodes) (and_first (nat_lt j (length nodes)) (list_any (is_from_node (at nodes j)) (sources_of d dynamic (at nodes i))) both), and_second (nat_lt j (length nodes)) (list_any (is_from_node (at nodes j)) (sources_of d dynamic (at nodes i))) both)
+        (low, ltb-true j (length nodes) (first_so (nat_lt j (length nodes)) (list_any (is_from_node (at nodes j)) (sources_of d dynamic (at nodes i))) both), second_so (nat_lt j (length nodes)) (list_any (is_from_node (at nodes j)) (sources_of d dynamic (at nodes i))) both)
 
     from : (x y : Node) → IsTrue (is_strong_edge d dynamic x y) → (i : ℕ) × (j : ℕ) × (at nodes i ≡ x) × (at nodes j ≡ y) × On rows i j
     from x y edge =
-        let pair : IsTrue (list_any (is_from_node y) (sources_of d dynamic x) && is_node d dynamic x) = and_first (list_any (is_from_node y) (sources_of d dynamic x) && is_node d dynamic x) (is_node d dynamic y) edge in
-        let there : IsTrue (list_any (is_from_node y) (sources_of d dynamic x)) = and_first (list_any (is_from_node y) (sources_of d dynamic x)) (is_node d dynamic x) pair in
-        let one : (i : ℕ) × (i < length nodes) × (at nodes i ≡ x) = number x (and_second (list_any (is_from_node y) (sources_of d dynamic x)) (is_node d dynamic x) pair) in
-        let two : (j : ℕ) × (j < length nodes) × (at nodes j ≡ y) = number y (and_second (list_any (is_from_node y) (sources_of d dynamic x) && is_node d dynamic x) (is_node d dynamic y) edge) in (
+        let pair : IsTrue (list_any (is_from_node y) (sources_of d dynamic x) && is_node d dynamic x) = first_so (list_any (is_from_node y) (sources_of d dynamic x) && is_node d dynamic x) (is_node d dynamic y) edge in
+        let there : IsTrue (list_any (is_from_node y) (sources_of d dynamic x)) = first_so (list_any (is_from_node y) (sources_of d dynamic x)) (is_node d dynamic x) pair in
+        let one : (i : ℕ) × (i < length nodes) × (at nodes i ≡ x) = number x (second_so (list_any (is_from_node y) (sources_of d dynamic x)) (is_node d dynamic x) pair) in
+        let two : (j : ℕ) × (j < length nodes) × (at nodes j ≡ y) = number y (second_so (list_any (is_from_node y) (sources_of d dynamic x) && is_node d dynamic x) (is_node d dynamic y) edge) in (
           one.0,
           two.0,
           one.2,

@@ -2,9 +2,9 @@
 use Rattle.std.proofs.Common.{◌≡◌, ℕ, ◌+◌, ◌-◌, ◌<◌, List, [], ◌∷◌, ◌++◌, Bool, true, false, cond, not, ◌&&◌, ◌==◌, true≢false, Option, Some, None, IsSome, is_some, find, option_map, option_and_then, option_to_list, refl, sym, ◌∙◌, ap, subst, arith, IsTrue, append_assoc, append-nil}
 use Rattle.std.specs.List.{filter_map, cons_option}
 use Rattle.std.proofs.lemmas.Bool.{lt-ltb, le-ltb, ltb-true, eq-eqb, ne_eqb}
+use Rattle.std.specs.Cmp.{first_so, second_so}
 use Rattle.cm_names.specs.declared.child.ChildName.{ChildName}
 use Rattle.cm_decl.specs.declared.node.DynChild.{DynChild}
-use Rattle.cm_decl.proofs.Sameness.{and_first, and_second}
 use Rattle.cm_world.specs.declared.row.Row.{Row}
 use Rattle.cm_world.specs.Rows.{row_of, has_parent}
 use Rattle.cm_world.specs.RowsInside.{is_behind, child_behind}
@@ -102,8 +102,8 @@ record IsFirst (rows : List Row) (p : ℕ) (after : Option ℕ) (s : Row) : Type
 first_here : (next p : ℕ) (after : Option ℕ) (r : Row) (rs : List Row) → IncarnationsIncrease next (r ∷ rs) → follows p after r ≡ true → IsFirst (r ∷ rs) p after r
 unfolding follows taken
 first_here next p after r rs increasing passes =
-    let parent : has_parent p r ≡ true = and_first (has_parent p r) (is_behind after r.inc) passes in
-    let behind : is_behind after r.inc ≡ true = and_second (has_parent p r) (is_behind after r.inc) passes in
+    let parent : has_parent p r ≡ true = first_so (has_parent p r) (is_behind after r.inc) passes in
+    let behind : is_behind after r.inc ≡ true = second_so (has_parent p r) (is_behind after r.inc) passes in
     let higher : AllBehind (Some r.inc) rs = above_all r.inc next rs increasing.0.1 increasing.1 in
     record {
       lives = ap (λ b. cond b (Some r) (row_of rs r.inc)) (eq-eqb r.inc r.inc refl);
@@ -209,5 +209,5 @@ fewer_ahead rows next p i after increasing e =
     let found : (s : Row) × (find (follows p after) rows ≡ Some s) × (s.inc ≡ i) = found_by (find (follows p after) rows) i e in
     let passes : IsTrue (follows p after found.0) = find-passes (follows p after) rows found.0 found.1 in
     fewer_by after next i
-    (subst (λ j. is_behind after j ≡ true) found.2 (and_second (has_parent p found.0) (is_behind after found.0.inc) passes))
+    (subst (λ j. is_behind after j ≡ true) found.2 (second_so (has_parent p found.0) (is_behind after found.0.inc) passes))
     (subst (λ j. j < next) found.2 (low rows next p after found.0 increasing found.1))

@@ -3,6 +3,7 @@ use Rattle.std.proofs.Common.{◌≡◌, ℕ, List, [], ◌∷◌, ◌++◌, Boo
 use Rattle.std.specs.List.{list_any, list_all, cons_option}
 use Rattle.std.proofs.lemmas.List.Folds.{list_any-append}
 use Rattle.std.proofs.lemmas.Bool.{and_from as and_pair, or_left, or_right}
+use Rattle.std.specs.Cmp.{first_so, second_so}
 use Rattle.cm_names.specs.declared.child.ChildName.{ChildName}
 use Rattle.cm_decl.specs.declared.decl.Decl.{Decl}
 use Rattle.cm_decl.specs.declared.rows.Give.{Give}
@@ -12,7 +13,7 @@ use Rattle.cm_decl.specs.declared.node.Node.TheVariants.{Own, Child}
 use Rattle.cm_decl.specs.Same.{same_child, same_node}
 use Rattle.cm_decl.specs.Reach.{DependencyPath, NoCycle}
 use Rattle.cm_decl.specs.Graph.{is_node, is_strong, is_from_node, static_node, dynamic_node, offers_to, gives_of, sources_of, StrongOn}
-use Rattle.cm_decl.proofs.Sameness.{and_first, and_second, or_split, never, same_child_exact}
+use Rattle.cm_decl.proofs.Sameness.{or_split, never, same_child_exact}
 use Rattle.cm_world.specs.declared.row.Row.{Row}
 use Rattle.cm_world.specs.Rows.{has_parent}
 use Rattle.cm_world.specs.Create.{dynamic_name, dynamic_by, dynamic_children}
@@ -59,11 +60,11 @@ created_name coll name gives = refl
 
 pub any_sibling : (q : Give → Bool) (c : ChildName) (y : Node) (ks : List DynChild) → IsTrue (list_all is_created ks) → IsTrue (list_any (is_from_node y) (map (λ g. g.from) (filter q (gives_of ks c)))) → IsTrue (list_any (λ n. same_node n (Child c)) (map dynamic_node ks)) × IsTrue (is_some c.coll)
 any_sibling q c y [] all any = never any
-any_sibling q c y (k ∷ ks) all any = by (same_child k.name c) refl (any_sibling q c y ks (and_second (is_created k) (list_all is_created ks) all)) where
+any_sibling q c y (k ∷ ks) all any = by (same_child k.name c) refl (any_sibling q c y ks (second_so (is_created k) (list_all is_created ks) all)) where
   by : (b : Bool) → same_child k.name c ≡ b → (IsTrue (list_any (is_from_node y) (map (λ g. g.from) (filter q (gives_of ks c)))) → IsTrue (list_any (λ n. same_node n (Child c)) (map dynamic_node ks)) × IsTrue (is_some c.coll)) → IsTrue (list_any (λ n. same_node n (Child c)) (map dynamic_node (k ∷ ks))) × IsTrue (is_some c.coll)
   by true e rest = (
     or_left (same_child k.name c) (list_any (λ n. same_node n (Child c)) (map dynamic_node ks)) e,
-    subst (λ n. IsTrue (is_some n.coll)) (same_child_exact k.name c e) (and_first (is_created k) (list_all is_created ks) all),
+    subst (λ n. IsTrue (is_some n.coll)) (same_child_exact k.name c e) (first_so (is_created k) (list_all is_created ks) all),
   )
   by false e rest =
       let later : IsTrue (list_any (λ n. same_node n (Child c)) (map dynamic_node ks)) × IsTrue (is_some c.coll) = rest (rw e at any) in
@@ -135,16 +136,16 @@ module _ (d : Decl) (old : List DynChild) (k : DynChild)
 
   comes : (x y : Node) → StrongOn d (old ++ k ∷ []) x y → IsTrue (list_any (is_from_node y) (sources_of d (old ++ k ∷ []) x))
   comes x y strong =
-      and_first (list_any (is_from_node y) (sources_of d (old ++ k ∷ []) x)) (is_node d (old ++ k ∷ []) x)
-      (and_first (list_any (is_from_node y) (sources_of d (old ++ k ∷ []) x) && is_node d (old ++ k ∷ []) x) (is_node d (old ++ k ∷ []) y) strong)
+      first_so (list_any (is_from_node y) (sources_of d (old ++ k ∷ []) x)) (is_node d (old ++ k ∷ []) x)
+      (first_so (list_any (is_from_node y) (sources_of d (old ++ k ∷ []) x) && is_node d (old ++ k ∷ []) x) (is_node d (old ++ k ∷ []) y) strong)
 
   first_there : (x y : Node) → StrongOn d (old ++ k ∷ []) x y → IsTrue (is_node d (old ++ k ∷ []) x)
   first_there x y strong =
-      and_second (list_any (is_from_node y) (sources_of d (old ++ k ∷ []) x)) (is_node d (old ++ k ∷ []) x)
-      (and_first (list_any (is_from_node y) (sources_of d (old ++ k ∷ []) x) && is_node d (old ++ k ∷ []) x) (is_node d (old ++ k ∷ []) y) strong)
+      second_so (list_any (is_from_node y) (sources_of d (old ++ k ∷ []) x)) (is_node d (old ++ k ∷ []) x)
+      (first_so (list_any (is_from_node y) (sources_of d (old ++ k ∷ []) x) && is_node d (old ++ k ∷ []) x) (is_node d (old ++ k ∷ []) y) strong)
 
   second_there : (x y : Node) → StrongOn d (old ++ k ∷ []) x y → IsTrue (is_node d (old ++ k ∷ []) y)
-  second_there x y strong = and_second (list_any (is_from_node y) (sources_of d (old ++ k ∷ []) x) && is_node d (old ++ k ∷ []) x) (is_node d (old ++ k ∷ []) y) strong
+  second_there x y strong = second_so (list_any (is_from_node y) (sources_of d (old ++ k ∷ []) x) && is_node d (old ++ k ∷ []) x) (is_node d (old ++ k ∷ []) y) strong
 
   edge : (x y : Node) → IsTrue (list_any (is_from_node y) (sources_of d old x)) → IsTrue (is_node d old x) → IsTrue (is_node d old y) → StrongOn d old x y
   edge x y from first second =

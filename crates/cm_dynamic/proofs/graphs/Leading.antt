@@ -6,6 +6,7 @@ use Rattle.std.specs.BTreeSet.{BTreeSet}
 use Rattle.std.proofs.lemmas.List.{map-append}
 use Rattle.std.proofs.lemmas.List.Folds.{list_any-append}
 use Rattle.std.proofs.lemmas.Bool.{and_from as and_pair}
+use Rattle.std.specs.Cmp.{first_so, second_so}
 use Rattle.cm_names.specs.declared.child.ChildName.{ChildName}
 use Rattle.cm_decl.specs.declared.decl.Decl.{Decl}
 use Rattle.cm_decl.specs.declared.rows.Child.{Child as DeclaredChild}
@@ -18,7 +19,7 @@ use Rattle.cm_decl.specs.declared.origin.Origin.TheVariants as origin
 use Rattle.cm_decl.specs.Same.{same_child, same_node}
 use Rattle.cm_decl.specs.Reach.{DependencyPath, Reaches, NoCycle}
 use Rattle.cm_decl.specs.Graph.{nodes, is_node, static_name, is_strong, is_from_node, static_node, dynamic_node, offers_to, gives_of, child_sources, sources_of, StrongOn}
-use Rattle.cm_decl.proofs.Sameness.{and_first, and_second, or_split, never, same_child_exact, same_node-refl, same_node_exact}
+use Rattle.cm_decl.proofs.Sameness.{or_split, never, same_child_exact, same_node-refl, same_node_exact}
 use Rattle.cm_decl.proofs.orders.Orders.{edge_nodes}
 use Rattle.cm_decl.proofs.cycles.Reaching.{Reaches-trans}
 use Rattle.cm_deps.proofs.given.Sourcing.{given_other, given_same, passing_any}
@@ -53,8 +54,8 @@ other_node d old k x apart has = elim (or_split (is_node d old x) (same_node (Ch
 
 comes : (d : Decl) (ks : List DynChild) (x y : Node) → StrongOn d ks x y → IsTrue (list_any (is_from_node y) (sources_of d ks x))
 comes d ks x y strong =
-    and_first (list_any (is_from_node y) (sources_of d ks x)) (is_node d ks x)
-    (and_first (list_any (is_from_node y) (sources_of d ks x) && is_node d ks x) (is_node d ks y) strong)
+    first_so (list_any (is_from_node y) (sources_of d ks x)) (is_node d ks x)
+    (first_so (list_any (is_from_node y) (sources_of d ks x) && is_node d ks x) (is_node d ks y) strong)
 
 -- an edge between others was there before
 edge_before : (d : Decl) (old : List DynChild) (k : DynChild) (x y : Node) → (x ≡ Child k.name → ⊥) → (y ≡ Child k.name → ⊥) → StrongOn d (old ++ k ∷ []) x y → StrongOn d old x y
@@ -145,7 +146,7 @@ module _ (rows : List Row) (next p : ℕ) (d : Decl) (new : ChildName) (gives : 
   -- a child of a collection that is named, and has a node, is in the set
   past_inside : (c : ChildName) → IsTrue (is_some c.coll) → IsTrue (is_past rows p new seen c) → IsTrue (is_node d all (Child c)) → IsInside rows p new seen (Child c)
   past_inside c coll past node =
-      let other : IsTrue (not (same_child c new)) = and_first (not (same_child c new)) (option_map_or (is_in_set seen) (child_of rows p c) true) past in
+      let other : IsTrue (not (same_child c new)) = first_so (not (same_child c new)) (option_map_or (is_in_set seen) (child_of rows p c) true) past in
       let before : IsTrue (is_node d (dynamic_children rows p) (Child c)) = other_node d (dynamic_children rows p) It (Child c) (static_of (Child c) other) node in
       let parts : IsTrue (list_any (λ n. same_node n (Child c)) (Own ∷ map static_node d.children)) ⊎ IsTrue (list_any (λ n. same_node n (Child c)) (map dynamic_node (dynamic_children rows p))) = or_split (list_any (λ n. same_node n (Child c)) (Own ∷ map static_node d.children)) (list_any (λ n. same_node n (Child c)) (map dynamic_node (dynamic_children rows p)))
       (sym (list_any-append (λ n. same_node n (Child c)) (Own ∷ map static_node d.children) (map dynamic_node (dynamic_children rows p))) ∙ before) in
@@ -158,7 +159,7 @@ module _ (rows : List Row) (next p : ℕ) (d : Decl) (new : ChildName) (gives : 
               is = refl;
               inc = one.row.inc;
               found = one.found;
-              there = same_there (child_of rows p c) one.row.inc one.found (and_second (not (same_child c new)) (option_map_or (is_in_set seen) (child_of rows p c) true) past);
+              there = same_there (child_of rows p c) one.row.inc one.found (second_so (not (same_child c new)) (option_map_or (is_in_set seen) (child_of rows p c) true) past);
               other = other;
             })
       ]

@@ -2,15 +2,16 @@
 use Rattle.std.proofs.Common.{◌≡◌, ℕ, ◌<◌, List, [], ◌∷◌, ◌++◌, Bool, true, false, cond, not, ◌&&◌, ◌||◌, ◌==◌, true≢false, Option, Some, None, IsTrue, is_some, find, map, option_map, option_and_then, refl, sym, ◌∙◌, ap, subst, arith, inl, inr}
 use Rattle.std.specs.List.{list_any, cons_option}
 use Rattle.std.specs.Option.{option_eq}
-use Rattle.std.proofs.lemmas.Bool.{eq-eqb, ne_eqb, and_from as and_pair}
+use Rattle.std.proofs.lemmas.Bool.{eq-eqb, ne_eqb, and_from as and_pair, not-true}
 use Rattle.std.proofs.lemmas.List.Folds.{list_any-append}
+use Rattle.std.specs.Cmp.{first_so, second_so}
 use Rattle.cm_names.specs.declared.child.ChildName.{ChildName}
 use Rattle.cm_decl.specs.declared.rows.Give.{Give}
 use Rattle.cm_decl.specs.declared.node.DynChild.{DynChild}
 use Rattle.cm_decl.specs.declared.node.Node.TheVariants.{Child}
 use Rattle.cm_decl.specs.Same.{same_child, same_node}
 use Rattle.cm_decl.specs.Graph.{dynamic_node, gives_of}
-use Rattle.cm_decl.proofs.Sameness.{and_first, and_second, or_split, never, same_child_exact, same_node-refl}
+use Rattle.cm_decl.proofs.Sameness.{or_split, never, same_child_exact, same_node-refl}
 use Rattle.cm_world.specs.declared.row.Row.{Row}
 use Rattle.cm_world.specs.Rows.{row_of, child_of, has_parent, has_name}
 use Rattle.cm_world.specs.Sound.{IncarnationsIncrease, IsOrderly}
@@ -80,10 +81,6 @@ kin_later next p c q r rs increasing it =
       passes = it.passes;
     }
 
-not_doomed : (b : Bool) → IsTrue (not b) → b ≡ false
-not_doomed true h = never h
-not_doomed false h = refl
-
 kin_of : (p next : ℕ) (c : ChildName) (q : List Give → Bool) (r : Row) (rs : List Row) (o : Option ChildName) → r.name ≡ o → IncarnationsIncrease next (r ∷ rs) → (IsTrue (has_one (λ k. q k.gives) c (dynamic_children rs p)) → IsKin rs p c q) → IsTrue (has_one (λ k. q k.gives) c (cons_option (option_and_then (dynamic_by p r) o) (dynamic_children rs p))) → IsKin (r ∷ rs) p c q
 kin_of p next c q r rs None e increasing later any = kin_later next p c q r rs increasing (later any)
 kin_of p next c q r rs (Some n) e increasing later any = by (has_parent p r && is_some n.coll && not r.doomed) refl any where
@@ -91,10 +88,10 @@ kin_of p next c q r rs (Some n) e increasing later any = by (has_parent p r && i
   by false f some = kin_later next p c q r rs increasing (later some)
   by true f some = elim (or_split (same_child n c && q r.gives) (has_one (λ k. q k.gives) c (dynamic_children rs p)) some) [
     | inl here ↦ kin_here next p c q r rs
-        (and_first (has_parent p r) (is_some n.coll) (and_first (has_parent p r && is_some n.coll) (not r.doomed) f))
-        (e ∙ ap Some (same_child_exact n c (and_first (same_child n c) (q r.gives) here)))
-        (not_doomed r.doomed (and_second (has_parent p r && is_some n.coll) (not r.doomed) f))
-        (and_second (same_child n c) (q r.gives) here)
+        (first_so (has_parent p r) (is_some n.coll) (first_so (has_parent p r && is_some n.coll) (not r.doomed) f))
+        (e ∙ ap Some (same_child_exact n c (first_so (same_child n c) (q r.gives) here)))
+        (not-true r.doomed (second_so (has_parent p r && is_some n.coll) (not r.doomed) f))
+        (second_so (same_child n c) (q r.gives) here)
     | inr more ↦ kin_later next p c q r rs increasing (later more)
   ]
 
@@ -128,12 +125,12 @@ named rows next p c q orderly any =
     let first : (r : Row) × (find test rows ≡ Some r) = find_some test rows it.row.inc it.row it.lives passes in
     let lives : row_of rows first.0.inc ≡ Some first.0 = find-lives test rows next first.0 orderly.increasing first.1 in
     let also : IsTrue (test first.0) = find-passes test rows first.0 first.1 in
-    let both : IsTrue (has_parent p first.0 && has_name c first.0) = and_first (has_parent p first.0 && has_name c first.0) (not first.0.doomed) also in
+    let both : IsTrue (has_parent p first.0 && has_name c first.0) = first_so (has_parent p first.0 && has_name c first.0) (not first.0.doomed) also in
     let same : first.0.inc ≡ it.row.inc =
     orderly.one_name first.0.inc it.row.inc first.0 it.row lives it.lives
-    (not_doomed first.0.doomed (and_second (has_parent p first.0 && has_name c first.0) (not first.0.doomed) also)) it.kept
-    (parent_is p first.0.parent (and_first (has_parent p first.0) (has_name c first.0) both) ∙ sym (parent_is p it.row.parent it.parent))
-    (named_by first.0.name c (and_second (has_parent p first.0) (has_name c first.0) both) ∙ sym it.name) in
+    (not-true first.0.doomed (second_so (has_parent p first.0 && has_name c first.0) (not first.0.doomed) also)) it.kept
+    (parent_is p first.0.parent (first_so (has_parent p first.0) (has_name c first.0) both) ∙ sym (parent_is p it.row.parent it.parent))
+    (named_by first.0.name c (second_so (has_parent p first.0) (has_name c first.0) both) ∙ sym it.name) in
     record {
       row = it.row;
       lives = it.lives;

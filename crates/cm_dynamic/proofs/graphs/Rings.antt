@@ -4,6 +4,7 @@ use Rattle.std.specs.List.{list_any, list_all}
 use Rattle.std.specs.Option.{option_eq}
 use Rattle.std.specs.Str.{bytes_eq}
 use Rattle.std.proofs.lemmas.Bool.{and_from as and_pair}
+use Rattle.std.specs.Cmp.{first_so, second_so}
 use Rattle.cm_names.specs.declared.child.ChildName.{ChildName}
 use Rattle.cm_decl.specs.declared.decl.Decl.{Decl}
 use Rattle.cm_decl.specs.declared.origin.Origin.{Origin}
@@ -14,7 +15,7 @@ use Rattle.cm_decl.specs.declared.node.Node.{Node}
 use Rattle.cm_decl.specs.declared.node.Node.TheVariants.{Own, Child}
 use Rattle.cm_decl.specs.Same.{same_node}
 use Rattle.cm_decl.specs.Graph.{is_strong, is_from_child, is_from_node, target_of, offers_to, own_sources}
-use Rattle.cm_decl.proofs.Sameness.{and_first, and_second, or_split, never, same_node_exact}
+use Rattle.cm_decl.proofs.Sameness.{or_split, never, same_node_exact}
 use Rattle.cm_dynamic.specs.Apart.{is_from_created, is_plain_give, is_plain_use, NoneOfKind}
 
 -- ---- lists
@@ -22,14 +23,14 @@ use Rattle.cm_dynamic.specs.Apart.{is_from_created, is_plain_give, is_plain_use,
 pub all_join : {A : Type 0} (p : A → Bool) (xs ys : List A) → IsTrue (list_all p xs) → IsTrue (list_all p ys) → IsTrue (list_all p (xs ++ ys))
 all_join p [] ys first second = second
 all_join p (x ∷ xs) ys first second =
-    and_pair (p x) (list_all p (xs ++ ys)) (and_first (p x) (list_all p xs) first) (all_join p xs ys (and_second (p x) (list_all p xs) first) second)
+    and_pair (p x) (list_all p (xs ++ ys)) (first_so (p x) (list_all p xs) first) (all_join p xs ys (second_so (p x) (list_all p xs) first) second)
 
 -- what all pass, those that are kept pass
 all_kept : {A B : Type 0} (p : B → Bool) (f : A → B) (t : A → Bool) (xs : List A) → IsTrue (list_all (λ x. p (f x)) xs) → IsTrue (list_all p (map f (filter t xs)))
 all_kept p f t [] all = refl
-all_kept p f t (x ∷ xs) all = by (t x) refl (all_kept p f t xs (and_second (p (f x)) (list_all (λ x. p (f x)) xs) all)) where
+all_kept p f t (x ∷ xs) all = by (t x) refl (all_kept p f t xs (second_so (p (f x)) (list_all (λ x. p (f x)) xs) all)) where
   by : (b : Bool) → t x ≡ b → IsTrue (list_all p (map f (filter t xs))) → IsTrue (list_all p (map f (filter t (x ∷ xs))))
-  by true e rest = rw e (and_pair (p (f x)) (list_all p (map f (filter t xs))) (and_first (p (f x)) (list_all (λ x. p (f x)) xs) all) rest)
+  by true e rest = rw e (and_pair (p (f x)) (list_all p (map f (filter t xs))) (first_so (p (f x)) (list_all (λ x. p (f x)) xs) all) rest)
   by false e rest = rw e rest
 
 -- one that is kept, and what all pass of it
@@ -41,10 +42,10 @@ pub record IsKept {A B : Type 0} (q : B → Bool) (f : A → B) (t s : A → Boo
 
 pub one_kept : {A B : Type 0} (q : B → Bool) (f : A → B) (t s : A → Bool) (xs : List A) → IsTrue (list_any q (map f (filter t xs))) → IsTrue (list_all s xs) → IsKept q f t s
 one_kept q f t s [] any all = never any
-one_kept q f t s (x ∷ xs) any all = by (t x) refl (λ later. one_kept q f t s xs later (and_second (s x) (list_all s xs) all)) where
+one_kept q f t s (x ∷ xs) any all = by (t x) refl (λ later. one_kept q f t s xs later (second_so (s x) (list_all s xs) all)) where
   by : (b : Bool) → t x ≡ b → (IsTrue (list_any q (map f (filter t xs))) → IsKept q f t s) → IsKept q f t s
   by true e rest = elim (or_split (q (f x)) (list_any q (map f (filter t xs))) (rw e at any)) [
-    | inl here ↦ record { item = x; here = here; passes = e; all = and_first (s x) (list_all s xs) all }
+    | inl here ↦ record { item = x; here = here; passes = e; all = first_so (s x) (list_all s xs) all }
     | inr later ↦ rest later
   ]
   by false e rest = rest (rw e at any)
@@ -86,4 +87,4 @@ module _ (d : Decl) (dynamic : List DynChild) (apart : NoneOfKind d dynamic) whe
   own_static y any =
       let one : IsKept (is_from_node y) (λ (u : Usage). u.from) (λ u. is_strong u.dependency && is_from_child u.from) is_plain_use =
       one_kept (is_from_node y) (λ u. u.from) (λ u. is_strong u.dependency && is_from_child u.from) is_plain_use d.uses any apart.usages in
-      static_source y one.item.from one.here (unbound (is_strong one.item.dependency) (is_from_created one.item.from) (and_first (is_strong one.item.dependency) (is_from_child one.item.from) one.passes) one.all)
+      static_source y one.item.from one.here (unbound (is_strong one.item.dependency) (is_from_created one.item.from) (first_so (is_strong one.item.dependency) (is_from_child one.item.from) one.passes) one.all)

@@ -7,12 +7,13 @@ use Rattle.std.specs.BTreeSet.{BTreeSet}
 use Rattle.std.proofs.lemmas.Bool.{and_from as and_pair, or_left, or_right}
 use Rattle.std.proofs.lemmas.List.{take_all}
 use Rattle.std.proofs.lemmas.List.Folds.{list_all_more}
+use Rattle.std.specs.Cmp.{first_so, second_so}
 use Rattle.cm_names.specs.declared.child.ChildName.{ChildName}
 use Rattle.cm_decl.specs.declared.origin.Origin.{Origin}
 use Rattle.cm_decl.specs.declared.origin.Origin.TheVariants as origin
 use Rattle.cm_decl.specs.declared.rows.Give.{Give}
 use Rattle.cm_decl.specs.Same.{same_child}
-use Rattle.cm_decl.proofs.Sameness.{and_first, and_second, or_split, never}
+use Rattle.cm_decl.proofs.Sameness.{or_split, never}
 use Rattle.cm_world.specs.declared.row.Row.{Row}
 use Rattle.cm_world.specs.Rows.{row_of, child_of}
 use Rattle.cm_world.proofs.trees.Finding.{some_same, none_some}
@@ -59,10 +60,6 @@ put_grows inc seen ahead more further updates on here = record {
     by i true e there = subst (λ j. IsTrue (is_in_set seen j) ⊎ IsTrue (is_in_set further j)) (cmp_same inc i e) here
     by i false e there = inl (subst (λ b. IsTrue (cond b true (is_in_set seen i))) e there)
 
-pub was_seen : (b : Bool) → false ≡ not b → IsTrue b
-was_seen true e = refl
-was_seen false e = absurd (true≢false (sym e))
-
 -- ---- what leads past the new name
 
 pub past_none : (rows : List Row) (p : ℕ) (new c : ChildName) (seen : BTreeSet ℕ) → same_child c new ≡ false → child_of rows p c ≡ None → IsTrue (is_past rows p new seen c)
@@ -88,8 +85,8 @@ module _ (rows : List Row) (p : ℕ) (new : ChildName) (seen ahead more further 
   past_from_still : (o : Origin) → IsTrue (is_past_from rows p new seen o) → IsTrue (is_past_from rows p new more o)
   past_from_still (origin.Child c) past =
       and_pair (not (same_child c new)) (option_map_or (is_in_set more) (child_of rows p c) true)
-      (and_first (not (same_child c new)) (option_map_or (is_in_set seen) (child_of rows p c) true) past)
-      (there_still (child_of rows p c) (and_second (not (same_child c new)) (option_map_or (is_in_set seen) (child_of rows p c) true) past))
+      (first_so (not (same_child c new)) (option_map_or (is_in_set seen) (child_of rows p c) true) past)
+      (there_still (child_of rows p c) (second_so (not (same_child c new)) (option_map_or (is_in_set seen) (child_of rows p c) true) past))
   past_from_still origin.Own past = refl
   past_from_still origin.Parent past = refl
   past_from_still origin.Framework past = refl
@@ -106,8 +103,8 @@ module _ (rows : List Row) (p : ℕ) (new : ChildName) (seen ahead more further 
   all_still [] all = refl
   all_still (g ∷ gs) all =
       and_pair (leads_past rows p new more g) (list_all (leads_past rows p new more) gs)
-      (past_still g (and_first (leads_past rows p new seen g) (list_all (leads_past rows p new seen) gs) all))
-      (all_still gs (and_second (leads_past rows p new seen g) (list_all (leads_past rows p new seen) gs) all))
+      (past_still g (first_so (leads_past rows p new seen g) (list_all (leads_past rows p new seen) gs) all))
+      (all_still gs (second_so (leads_past rows p new seen g) (list_all (leads_past rows p new seen) gs) all))
 
 -- ---- the loop over offers
 

@@ -1,14 +1,11 @@
 -- Lanes made one after another, and taken apart so.
-use Rattle.std.proofs.Common.{◌≡◌, ℕ, ◌+◌, ◌≤◌, List, [], ◌∷◌, ◌++◌, All, map, length, false, Option, Some, refl, sym, ap, ◌∙◌, subst, append-nil, append_assoc, arith, suc}
+use Rattle.std.proofs.Common.{◌≡◌, ℕ, ◌+◌, ◌≤◌, List, [], ◌∷◌, ◌++◌, All, map, length, false, Option, Some, refl, sym, ap, ◌∙◌, subst, append-nil, append_assoc, arith, suc, add-one}
 use Rattle.std.proofs.lemmas.List.{map-append, length-append}
 use Rattle.std.proofs.lemmas.List.Elements.{All-push, All-nil}
 use Rattle.cm_manager.specs.Contract.{RealmPass}
 use Rattle.cm_lanes.specs.declared.lane.Lane.{Lane}
 use Rattle.cm_lanes.specs.declared.parts.LaneParts.{LaneParts}
 use Rattle.cm_lanes.specs.LaneParts.{AreLaneParts, LanePartsHaveRoom, NoLaneParts, IsFreshLane, PutsLaneParts}
-
-one_more : (n : ℕ) → suc n ≡ n + 1
-one_more n = grind arith
 
 module _ {G : Type 0} where
   -- lanes were made of the prefix of the passes and the gates
@@ -86,7 +83,7 @@ module _ {G : Type 0} where
       said = puts.said ∙ ap (λ x. x ++ l.said ∷ []) is.are.said ∙ sym (map-append (λ (l : Lane G). l.said) is.done (l ∷ []));
       kept = λ kept. (let both = puts.kept kept in All-push (λ (l : Lane G). l.lost ≡ false) is.done l (is.are.kept both.0) both.1);
     };
-    room = puts.room (length ls) (subst (λ (n : ℕ). LanePartsHaveRoom n parts) (ap (λ (x : List (Lane G)). length x) left_is ∙ one_more (length ls)) is.room);
+    room = puts.room (length ls) (subst (λ (n : ℕ). LanePartsHaveRoom n parts) (ap (λ (x : List (Lane G)). length x) left_is ∙ sym (add-one (length ls))) is.room);
   }
 
   pub taking_all : (lanes left : List (Lane G)) (parts : LaneParts G) → Taking lanes left parts → length left ≡ 0 → AreLaneParts lanes parts

@@ -1,5 +1,5 @@
 -- Answers moved from the lanes' queues to one list.
-use Rattle.std.proofs.Common.{◌≡◌, ◌≢◌, ℕ, ◌+◌, ◌<◌, ◌≤◌, ◌==◌, List, [], ◌∷◌, ◌++◌, map, flat_map, take, drop, length, get_or, Bool, true, false, Some, None, Err, refl, sym, ap, ◌∙◌, subst, append-nil, append_assoc, arith}
+use Rattle.std.proofs.Common.{◌≡◌, ◌≢◌, ℕ, ◌+◌, ◌<◌, ◌≤◌, ◌==◌, List, [], ◌∷◌, ◌++◌, map, flat_map, take, drop, length, get_or, Bool, true, false, Some, None, Err, refl, sym, ap, ◌∙◌, subst, append-nil, append_assoc, arith, eqb-true}
 use Rattle.std.proofs.lemmas.List.{map-append, take_more, drop_more, take_all, drop_all, get_or-map, length-map}
 use Rattle.std.proofs.lemmas.Grind.{flat_map-append}
 use Rattle.cm_world.specs.declared.answer.Refusal.TheVariants as refusal
@@ -9,7 +9,7 @@ use Rattle.cm_lanes.specs.Script.{AnsweredLine, answered_lines, answers_of}
 use Rattle.cm_lanes.specs.ScriptInside.{said_of}
 use Rattle.cm_lanes.specs.Phases.{told_to}
 use Rattle.cm_lanes.specs.Merge.{Queue, TakesFirst, QueuesStartWith}
-use Rattle.cm_lanes.proofs.merged.Weaving.{same_lane, is_lane, answers_first}
+use Rattle.cm_lanes.proofs.merged.Weaving.{same_lane, answers_first}
 
 -- the first n of these answers are moved
 pub record Moves (n : ℕ) (answered : List AnsweredLine) (behind : ℕ → List Said) (queues : List Queue) (old all : List Said) : Type 0 where
@@ -42,7 +42,7 @@ left_here c a rest behind lane =
     ap (λ (xs : List AnsweredLine). map said_of xs ++ behind) (answers_first c a rest true here)
 
 not_same : (n c : ℕ) (b : Bool) → (n == c) ≡ b → n ≢ c → b ≡ false
-not_same n c true is other = absurd (other (is_lane n c is))
+not_same n c true is other = absurd (other (eqb-true n c is))
 not_same n c false is other = refl
 
 left_there : (c : ℕ) (a : AnsweredLine) (rest : List AnsweredLine) → a.line.lane ≢ c → answers_of c (a ∷ rest) ≡ answers_of c rest
@@ -78,7 +78,7 @@ moves_more answered behind n l queues new old all all' s count lane next moves t
   here d = tail_same _ _ _ _ (sym (takes.here d) ∙ moves.left l.lane d lane ∙ ap (λ (xs : List AnsweredLine). map said_of (answers_of l.lane xs) ++ behind l.lane) next.drops ∙ left_here l.lane next.answer (drop (n + 1) answered) (behind l.lane) (ap (λ (l : Line). l.lane) next.line_is))
 
   left_at : (k : ℕ) (e : Queue) → k < 16 → (b : Bool) → (k == l.lane) ≡ b → (get_or new k e).items ≡ map said_of (answers_of k (drop (n + 1) answered)) ++ behind k
-  left_at k e lt true is = subst (λ (m : ℕ). (get_or new m e).items ≡ map said_of (answers_of m (drop (n + 1) answered)) ++ behind m) (sym (is_lane k l.lane is)) (here e).1
+  left_at k e lt true is = subst (λ (m : ℕ). (get_or new m e).items ≡ map said_of (answers_of m (drop (n + 1) answered)) ++ behind m) (sym (eqb-true k l.lane is)) (here e).1
   left_at k e lt false is =
       let other = differ k l.lane is in
       ap (λ (q : Queue). q.items) (takes.others k e other) ∙ moves.left k e lt ∙ ap (λ (xs : List AnsweredLine). map said_of (answers_of k xs) ++ behind k) next.drops

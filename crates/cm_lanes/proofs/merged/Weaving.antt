@@ -1,5 +1,5 @@
 -- The lanes' answers, merged together in the order of the lines.
-use Rattle.std.proofs.Common.{◌≡◌, ℕ, ◌<◌, ◌==◌, List, [], ◌∷◌, All, drop, cond, Bool, true, false, refl, sym, ap, ◌∙◌, subst, arith, rules, suc}
+use Rattle.std.proofs.Common.{◌≡◌, ℕ, ◌<◌, ◌==◌, List, [], ◌∷◌, All, drop, cond, Bool, true, false, refl, sym, ap, ◌∙◌, subst, arith, rules, suc, eqb-true}
 use Rattle.cm_command.specs.declared.script.Line.{Line}
 use Rattle.cm_lanes.specs.Script.{AnsweredLine, answered_lines, answers_of}
 use Rattle.cm_lanes.specs.ScriptInside.{lines_of}
@@ -46,9 +46,6 @@ answers_first c x xs b is = ap (λ (t : Bool). cond t (x ∷ answers_of c xs) (a
 pub same_lane : (n : ℕ) → (n == n) ≡ true
 same_lane n = search rules
 
-pub is_lane : (n c : ℕ) → (n == c) ≡ true → n ≡ c
-is_lane n c e = search (rules, e)
-
 left_parts : (l : Line) (ls : List Line) (each : ℕ → List AnsweredLine) (c : ℕ) (b : Bool) → (l.lane == c) ≡ b → answered_lines (each c) ≡ lines_of c (l ∷ ls) → answered_lines (left l each c) ≡ lines_of c ls
 unfolding left
 left_parts l ls each c true is parts =
@@ -61,7 +58,7 @@ unfolding left
 put_back l each f rest c true is rest_is =
     let at : (f.answer.line.lane == c) ≡ true = ap (λ (x : Line). x.lane == c) f.line_is ∙ is in
     let here : f.answer ∷ drop 1 (each l.lane) ≡ each l.lane = sym f.first in
-    let there : f.answer ∷ drop 1 (each c) ≡ each c = subst (λ (n : ℕ). f.answer ∷ drop 1 (each n) ≡ each n) (is_lane l.lane c is) here in
+    let there : f.answer ∷ drop 1 (each c) ≡ each c = subst (λ (n : ℕ). f.answer ∷ drop 1 (each n) ≡ each n) (eqb-true l.lane c is) here in
     answers_first c f.answer rest true at ∙ ap (λ (xs : List AnsweredLine). f.answer ∷ xs) (rest_is ∙ ap (λ (t : Bool). cond t (drop 1 (each c)) (each c)) is) ∙ there
 put_back l each f rest c false is rest_is =
     let at : (f.answer.line.lane == c) ≡ false = ap (λ (x : Line). x.lane == c) f.line_is ∙ is in

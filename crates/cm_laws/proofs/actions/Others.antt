@@ -1,8 +1,9 @@
 -- What the entries of other callers leave: who began an action may still end it, and who joined one is still joined.
-use Rattle.std.proofs.Common.{◌≡◌, ℕ, ◌==◌, List, [], ◌∷◌, ◌++◌, Bool, true, false, true≢false, cond, ◌&&◌, ◌||◌, Option, Some, None, refl, sym, ◌∙◌, ap, subst, IsTrue}
+use Rattle.std.proofs.Common.{◌≡◌, ℕ, ◌==◌, List, [], ◌∷◌, ◌++◌, Bool, true, false, true≢false, cond, ◌||◌, Option, Some, None, refl, sym, ◌∙◌, ap, subst, IsTrue}
 use Rattle.std.specs.List.{list_any}
 use Rattle.std.proofs.lemmas.List.Folds.{list_any-append}
-use Rattle.std.specs.Cmp.{unsigned_Decides}
+use Rattle.std.specs.Cmp.{unsigned_Decides, first_so}
+use Rattle.std.proofs.lemmas.Bool.{or_left, and_left}
 use Rattle.cm_world.specs.declared.action.Act.{Act}
 use Rattle.cm_world.specs.declared.action.Join.{Join}
 use Rattle.cm_world.specs.declared.action.ActKind.TheVariants.{Stop}
@@ -75,10 +76,6 @@ module _ (caller a : ℕ) (f : Finish) where
 
 -- ---- joins
 
-or_left : (b c : Bool) → b ≡ true → IsTrue (b || c)
-or_left true c e = refl
-or_left false c e = absurd (true≢false (sym e))
-
 any_left : (p : Join → Bool) (xs ys : List Join) → IsTrue (list_any p xs) → IsTrue (list_any p (xs ++ ys))
 any_left p xs ys e = list_any-append p xs ys ∙ ap (λ b. b || list_any p ys) e
 
@@ -98,13 +95,6 @@ any_dropped p q [] apart e = e
 any_dropped p q (x ∷ xs) apart e =
     dropped_by (q x) (p x) p q x xs refl refl (apart x) (any_dropped p q xs apart) e
 
-first_of : (b c : Bool) → IsTrue (b && c) → b ≡ true
-first_of true c e = refl
-first_of false c e = absurd (true≢false (sym e))
-
-off_by : (t b : Bool) → t ≡ false → (t && b) ≡ false
-off_by t b e = ap (λ z. z && b) e
-
 callers_differ : (n other caller : ℕ) (t : Bool) → (other ≡ caller → ⊥) → n ≡ caller → (n == other) ≡ t → t ≡ false
 callers_differ n other caller true differ same e = absurd (differ (sym ((unsigned_Decides n other).0 e) ∙ same))
 callers_differ n other caller false differ same e = refl
@@ -112,8 +102,8 @@ callers_differ n other caller false differ same e = refl
 -- a join of one caller is none of another
 not_theirs : (other caller b a : ℕ) (j : Join) → (other ≡ caller → ⊥) → IsTrue (is_join caller a j) → is_join other b j ≡ false
 not_theirs other caller b a j differ mine =
-    let same : j.caller ≡ caller = (unsigned_Decides j.caller caller).0 (first_of (j.caller == caller) (j.action == a) mine) in
-    off_by (j.caller == other) (j.action == b) (callers_differ j.caller other caller (j.caller == other) differ same refl)
+    let same : j.caller ≡ caller = (unsigned_Decides j.caller caller).0 (first_so (j.caller == caller) (j.action == a) mine) in
+    and_left (j.caller == other) (j.action == b) (callers_differ j.caller other caller (j.caller == other) differ same refl)
 
 module _ (caller a : ℕ) where
   unended_by : (w : World) (b : ℕ) (g : Finish) (o : Outcome) (x : Option Act) → IsTrue (list_any (is_join caller a) w.joins) → IsTrue (list_any (is_join caller a) (with_end_of w b g o x).joins)

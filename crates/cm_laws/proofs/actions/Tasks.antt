@@ -1,5 +1,5 @@
 -- Which action is pending where, before and behind a change.
-use Rattle.std.proofs.Common.{◌≡◌, ℕ, ◌+◌, ◌<◌, ◌≤◌, ◌==◌, List, [], ◌∷◌, ◌++◌, Bool, true, false, cond, true≢false, Option, Some, None, length, find, option_map, refl, sym, ◌∙◌, ap, subst, arith, inl, inr, ◌⊎◌}
+use Rattle.std.proofs.Common.{◌≡◌, ℕ, ◌+◌, ◌<◌, ◌≤◌, ◌==◌, List, [], ◌∷◌, ◌++◌, Bool, true, false, cond, true≢false, Option, Some, None, length, find, option_map, refl, sym, ◌∙◌, ap, subst, arith, inl, inr, ◌⊎◌, ne_eqb}
 use Rattle.std.specs.Cmp.{unsigned_Decides}
 use Rattle.std.specs.Option.{option_or}
 use Rattle.std.proofs.lemmas.List.Folds.{find-append}
@@ -30,9 +30,6 @@ by_test i j hits differ = by_bool (i == j) i j refl hits differ
 unequal_by : (b : Bool) (i j : ℕ) → (i ≡ j → ⊥) → (i == j) ≡ b → b ≡ false
 unequal_by true i j differ e = absurd (differ ((unsigned_Decides i j).0 e))
 unequal_by false i j differ e = refl
-
-unequal : (i j : ℕ) → (i ≡ j → ⊥) → (i == j) ≡ false
-unequal i j differ = let e : (i == j) ≡ (i == j) = refl in e ∙ unequal_by (i == j) i j differ e
 
 either_by : {A : Type 0} (o q : Option A) (z : A) → option_or o q ≡ Some z → (o ≡ Some z) ⊎ (q ≡ Some z)
 either_by None q z e = inr e
@@ -73,7 +70,7 @@ module _ {A : Type 0} (key : A → ℕ) (i : ℕ) (f : A → A) (keeps : (x : A)
   other_by : (j : ℕ) (b : Bool) (x : A) (xs : List A) → (j ≡ i → ⊥) → (key x == i) ≡ b → find (λ z. key z == j) (edit_first (λ z. key z == i) f xs) ≡ find (λ z. key z == j) xs → find (λ z. key z == j) (cond b (f x ∷ xs) (x ∷ edit_first (λ z. key z == i) f xs)) ≡ cond (key x == j) (Some x) (find (λ z. key z == j) xs)
   other_by j true x xs differ same more =
       let apart : (key x ≡ j) → ⊥ = λ e. differ (sym e ∙ (unsigned_Decides (key x) i).0 same) in
-      let off : (key x == j) ≡ false = unequal (key x) j apart in
+      let off : (key x == j) ≡ false = ne_eqb (key x) j apart in
       let off_too : (key (f x) == j) ≡ false = ap (λ n. n == j) (keeps x) ∙ off in
       ap (λ t. cond t (Some (f x)) (find (λ z. key z == j) xs)) off_too
       ∙ sym (ap (λ t. cond t (Some x) (find (λ z. key z == j) xs)) off)

@@ -2,7 +2,7 @@
 use Rattle.std.proofs.Common.{◌≡◌, ℕ, List, [], ◌∷◌, ◌++◌, Bool, true, false, cond, ◌&&◌, ◌||◌, ◌==◌, Option, Some, None, IsTrue, find, filter, is_some, refl, sym, ◌∙◌, ap, subst}
 use Rattle.std.specs.List.{list_any}
 use Rattle.std.specs.Str.{bytes_eq}
-use Rattle.std.specs.Cmp.{unsigned_Decides}
+use Rattle.std.specs.Cmp.{unsigned_Decides, first_so}
 use Rattle.std.proofs.lemmas.List.Folds.{list_any-append}
 use Rattle.cm_names.specs.declared.child.ChildName.{ChildName}
 use Rattle.cm_decl.specs.declared.decl.Decl.{Decl}
@@ -14,7 +14,6 @@ use Rattle.cm_decl.specs.declared.origin.Origin.{Origin}
 use Rattle.cm_decl.specs.declared.origin.Origin.TheVariants.{Child}
 use Rattle.cm_decl.specs.Same.{same_kind}
 use Rattle.cm_decl.specs.Graph.{is_strong, target_of, offers_to, child_sources, is_from_child, own_sources}
-use Rattle.cm_decl.proofs.Sameness.{and_first}
 use Rattle.cm_world.specs.declared.row.Row.{Row}
 use Rattle.cm_world.specs.Rows.{row_of, is_live, decl_of, child_of}
 use Rattle.cm_world.specs.Level.{is_child_row, is_level_node, child_row_sources, level_sources, is_from_row, LevelStrong}
@@ -65,7 +64,7 @@ module _ (q : Origin → Bool) where
       any_map passes (λ o. o.give) (filter to d.offers) ∙ any_filtered (λ o. passes o.give) to d.offers
       ∙ found_any (is_offer_to c kind name) (λ o. to o && passes o.give) d.offers o found
       (and_pair (to o) (passes o.give)
-      (and_first (to o) (same_kind o.give.kind kind && bytes_eq o.give.target_name name) (find-passes (is_offer_to c kind name) d.offers o found)) given)
+      (first_so (to o) (same_kind o.give.kind kind && bytes_eq o.give.target_name name) (find-passes (is_offer_to c kind name) d.offers o found)) given)
 
   -- and so where the child was given it alone
   by_either : (d : Decl) (c : ChildName) (gives : List Give) (kind : Kind) (name : List ℕ) (g : Give) (o : Option Offer) → offer_of d c kind name ≡ o → give_or o (give_of gives kind name) ≡ Some g → IsTrue (passes g) → IsTrue (list_any passes (offers_to d c) || list_any passes gives)

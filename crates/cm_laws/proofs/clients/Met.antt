@@ -2,14 +2,13 @@
 use Rattle.std.proofs.Common.{◌≡◌, ◌≢◌, ℕ, List, [], ◌∷◌, true, false, ◌&&◌, true≢false, Option, Some, None, IsTrue, find, option_and_then, refl, sym, ◌∙◌, ap, subst, inl, inr, ◌⊎◌}
 use Rattle.std.specs.List.{list_all}
 use Rattle.std.specs.Str.{bytes_eq}
-use Rattle.std.specs.Cmp.{unsigned_Decides}
+use Rattle.std.specs.Cmp.{unsigned_Decides, first_so, second_so}
 use Rattle.cm_names.specs.declared.child.ChildName.{ChildName}
 use Rattle.cm_decl.specs.declared.decl.Decl.{Decl}
 use Rattle.cm_decl.specs.declared.rows.Give.{Give}
 use Rattle.cm_decl.specs.declared.rows.Usage.{Usage}
 use Rattle.cm_decl.specs.declared.origin.Origin.TheVariants.{Own, Child}
 use Rattle.cm_decl.specs.Graph.{is_strong}
-use Rattle.cm_decl.proofs.Sameness.{and_first, and_second}
 use Rattle.cm_world.specs.declared.row.Row.{Row}
 use Rattle.cm_world.specs.declared.frame.Builtin.{Builtin}
 use Rattle.cm_world.specs.declared.route.Start.TheVariants.{UseAt}
@@ -70,7 +69,7 @@ module _ (rows : List Row) (builtins : List Builtin) (next : ℕ) (orderly : IsO
   way_next y s t ts way = record {
     keeps = (steps_fall rows next builtins s t orderly way.keeps way.chain.0).1;
     chain = way.chain.1;
-    strong = and_second s.hop.strong (list_all (λ t. t.hop.strong) (t ∷ ts)) way.strong;
+    strong = second_so s.hop.strong (list_all (λ t. t.hop.strong) (t ∷ ts)) way.strong;
     ends = way.ends;
   }
 
@@ -160,7 +159,7 @@ module _ (rows : List Row) (builtins : List Builtin) (next : ℕ) (orderly : IsO
     unfolding Meets LeadsDown
     up_next s n _ ts asking way later (by_parent p g it) =
         later (offer_station rows p g) s.hop.inc
-        (asks_above s n p g asking it (and_first (is_strong g.dependency) (list_all (λ t. t.hop.strong) ts) way.strong)) refl way
+        (asks_above s n p g asking it (first_so (is_strong g.dependency) (list_all (λ t. t.hop.strong) ts) way.strong)) refl way
     up_next s n _ ts asking way later (by_kid c j g source found) =
         let kid : IsKid rows s.hop.inc j = child_kid s.hop.inc j c found in
         record {
@@ -213,7 +212,7 @@ module _ (rows : List Row) (builtins : List Builtin) (next : ℕ) (orderly : IsO
         let same : s ≡ use_station rows x u = cc in
         let used_way : IsWay rows builtins y (use_station rows x u) ss = subst (λ z. IsWay rows builtins y z ss) same way in
         meets ss (use_station rows x u) x
-        (asks_use path row.0 d u differ row.1 found used (and_first (is_strong u.dependency) (list_all (λ s. s.hop.strong) ss) used_way.strong)) refl used_way
+        (asks_use path row.0 d u differ row.1 found used (first_so (is_strong u.dependency) (list_all (λ s. s.hop.strong) ss) used_way.strong)) refl used_way
 
     -- by the declaration
     met_decl : (path : List ℕ) (s : Station) (ss : List Station) (o : Option Decl) → x ≢ y → decl_of rows x ≡ o → elim (option_and_then (λ d. find (λ u. bytes_eq u.path path) d.uses) o) as (λ _. Named) [ None ↦ NoUse | Some u ↦ First (use_station rows x u) ] ≡ First s → IsWay rows builtins y s ss → IsMet rows x y

@@ -4,12 +4,12 @@ use Rattle.std.proofs.Common.{◌≡◌, ℕ, ◌<◌, ◌≤◌, List, [], ◌�
 use Rattle.std.specs.Prelude.{Contains}
 use Rattle.std.specs.List.{list_all}
 use Rattle.std.specs.Option.{IfSome}
-use Rattle.std.specs.Cmp.{unsigned_Decides}
+use Rattle.std.specs.Cmp.{unsigned_Decides, first_so, second_so}
 use Rattle.std.proofs.lemmas.List.Elements.{All-contains, Contains-push_cases, Contains-append_cases}
 use Rattle.std.proofs.lemmas.List.Sums.{AllPass-from_list_all}
 use Rattle.std.proofs.lemmas.List.Folds.{list_all-map}
+use Rattle.std.proofs.lemmas.Bool.{not-true}
 use Rattle.cm_names.specs.declared.moniker.Moniker.{Moniker}
-use Rattle.cm_decl.proofs.Sameness.{and_first, and_second}
 use Rattle.cm_world.specs.declared.row.Row.{Row}
 use Rattle.cm_world.specs.declared.frame.Frame.{Frame}
 use Rattle.cm_world.specs.declared.report.Lost.{Lost}
@@ -34,7 +34,7 @@ use Rattle.cm_world.specs.Sound.{IsOrderly, IsParent}
 use Rattle.cm_world.proofs.trees.Finding.{some_same}
 use Rattle.cm_world.proofs.trees.Histories.{replay-append, replay-push, Legal-split}
 use Rattle.cm_table.proofs.tree.Rows.{lives_below}
-use Rattle.cm_order.proofs.trees.Trees.{climb, or_left, or_right, true_not_false, flip_not, below_cases, below_lives, below_self}
+use Rattle.cm_order.proofs.trees.Trees.{climb, or_left, or_right, true_not_false, below_cases, below_lives, below_self}
 use Rattle.cm_laws.specs.Destroying.{named_in, asked_of, is_removing, IsDoomed, IsDestroyed, IsPurged, IsShunned, IsForgotten, KeepsGone, LeavesGone}
 use Rattle.cm_laws.specs.DestroyingInside.{DoomedAreDestroyed, DestroyedStayGone}
 use Rattle.cm_laws.proofs.entries.Entries.{of_each_entry}
@@ -146,7 +146,7 @@ module _ (P : World → Type 0) (keeps : (w : World) (e : Entry) → IsHealthy w
 -- the row of an entry that dooms it, behind it
 row_behind : (w : World) (e : Entry) (i : ℕ) → IsTrue (dooms w e i) → (r : Row) × (row_of (after w e).rows i ≡ Some r) × (r.doomed ≡ true)
 row_behind w e i it =
-    doomed_row (after w e).rows i (and_second (not (has_doomed w.rows i)) (has_doomed (after w e).rows i) it)
+    doomed_row (after w e).rows i (second_so (not (has_doomed w.rows i)) (has_doomed (after w e).rows i) it)
 
 dooms_gone : (w : World) (e : Entry) (i : ℕ) → IsHealthy (after w e) → IsTrue (dooms w e i) → IsGone (after w e) i
 dooms_gone w e i healthy it =
@@ -332,7 +332,7 @@ gone_named rows next i (reply.Stopping work) low gone there fit = inr refl
 gone_named rows next i (reply.ShutDown j) low gone there fit = inr refl
 gone_named rows next i (reply.Purged lost) low gone there fit = inr refl
 gone_named rows next i (reply.Reaping incs) low gone there fit = inr refl
-gone_named rows next i r low gone there fit = true_not_false (is_gone rows i) gone (flip_not (is_gone rows i) fit)
+gone_named rows next i r low gone there fit = true_not_false (is_gone rows i) gone (not-true (is_gone rows i) fit)
 
 -- while it goes, it lives
 live_named : (rows : List Row) (next i : ℕ) (r : Reply) → IsTrue (is_removing r) → IsTrue (fits rows next r i) → IsTrue (is_live rows i)
@@ -391,7 +391,7 @@ destroyed_stay_gone f es legal =
 unfound : (w : World) (i : ℕ) (m : Moniker) → IsHealthy w → IsTrue (stands w.rows 0) → IsGone w i → found_from w.rows 0 [] m.parts ≡ reply.Found i → ⊥
 unfound w i m healthy root it found =
     let well : IsTrue (names_well w.rows w.next_inc (reply.Found i)) = reply_well w 0 (Find m) (reply.Found i) healthy.sound.orderly root (sym found) in
-    true_not_false (is_gone w.rows i) it.gone (flip_not (is_gone w.rows i) (and_first (stands w.rows i) true well))
+    true_not_false (is_gone w.rows i) it.gone (not-true (is_gone w.rows i) (first_so (stands w.rows i) true well))
 
 -- what was destroyed or removed is so in the tree that is left
 left_gone : (f : Frame) (es : List Entry) (i : ℕ) → Legal (start f) es → IsDestroyed f es i ⊎ IsPurged es i → IsGone (replay (start f) es) i

@@ -3,7 +3,7 @@ use Rattle.std.proofs.Common.{◌≡◌, ℕ, List, [], ◌∷◌, ◌++◌, map
 use Rattle.std.specs.List.{list_all, cons_option}
 use Rattle.std.specs.Option.{option_eq, option_map_or}
 use Rattle.std.specs.Str.{bytes_eq}
-use Rattle.std.specs.Cmp.{unsigned_Decides}
+use Rattle.std.specs.Cmp.{unsigned_Decides, first_so, second_so}
 use Rattle.std.proofs.lemmas.List.Folds.{list_all-map, list_all-append}
 use Rattle.cm_names.specs.declared.child.ChildName.{ChildName}
 use Rattle.cm_names.specs.declared.moniker.Moniker.{Moniker}
@@ -14,7 +14,6 @@ use Rattle.cm_decl.specs.declared.rows.Collection.{Collection}
 use Rattle.cm_decl.specs.declared.rows.Give.{Give}
 use Rattle.cm_decl.specs.Dynamic.{bad_give}
 use Rattle.cm_decl.specs.Graph.{static_name}
-use Rattle.cm_decl.proofs.Sameness.{and_first, and_second}
 use Rattle.cm_world.specs.declared.row.Row.{Row}
 use Rattle.cm_world.specs.declared.action.ActKind.{ActKind}
 use Rattle.cm_world.specs.declared.action.ActKind.TheVariants.{Resolve, Start, Stop}
@@ -63,17 +62,17 @@ all_kept p (x ∷ xs) = kept_by (p x) refl (all_kept p xs) where
 
 pub all_left : {A : Type 0} (p q : A → Bool) (xs : List A) → IsTrue (list_all p xs) → IsTrue (list_all p (filter q xs))
 all_left p q [] all = refl
-all_left p q (x ∷ xs) all = left_by (q x) (all_left p q xs (and_second (p x) (list_all p xs) all)) where
+all_left p q (x ∷ xs) all = left_by (q x) (all_left p q xs (second_so (p x) (list_all p xs) all)) where
   left_by : (b : Bool) → IsTrue (list_all p (filter q xs)) → IsTrue (list_all p (cond b (x ∷ filter q xs) (filter q xs)))
-  left_by true more = and_pair (p x) (list_all p (filter q xs)) (and_first (p x) (list_all p xs) all) more
+  left_by true more = and_pair (p x) (list_all p (filter q xs)) (first_so (p x) (list_all p xs) all) more
   left_by false more = more
 
 -- what comes of each item passes, if something does
 pub all_made : {A B : Type 0} (p : B → Bool) (h : A → Option B) (xs : List A) → IsTrue (list_all (λ x. option_map_or p (h x) true) xs) → IsTrue (list_all p (filter_map h xs))
 all_made p h [] all = refl
 all_made {B = B} p h (x ∷ xs) all =
-    made_by (h x) (and_first (option_map_or p (h x) true) (list_all (λ x. option_map_or p (h x) true) xs) all)
-    (all_made p h xs (and_second (option_map_or p (h x) true) (list_all (λ x. option_map_or p (h x) true) xs) all))
+    made_by (h x) (first_so (option_map_or p (h x) true) (list_all (λ x. option_map_or p (h x) true) xs) all)
+    (all_made p h xs (second_so (option_map_or p (h x) true) (list_all (λ x. option_map_or p (h x) true) xs) all))
   where
     made_by : (o : Option B) → IsTrue (option_map_or p o true) → IsTrue (list_all p (filter_map h xs)) → IsTrue (list_all p (cons_option o (filter_map h xs)))
     made_by None here more = more
@@ -341,7 +340,7 @@ module _ (rows : List Row) (next : ℕ) (orderly : IsOrderly rows next) where
   opened_well : (v : Walked) → IsTrue (walked_stands rows next orderly v) → IsTrue (well (opened rows v))
   opened_well (walked.Given route) names =
       opened_at_well route route.provider
-      (and_second (list_all (stands rows) (map (λ h. h.inc) route.hops)) (list_all (stands rows) (incs_of_provider route.provider))
+      (second_so (list_all (stands rows) (map (λ h. h.inc) route.hops)) (list_all (stands rows) (incs_of_provider route.provider))
       (sym (list_all-append (stands rows) (map (λ h. h.inc) route.hops) (incs_of_provider route.provider)) ∙ names)) names
   opened_well (walked.Failed hop reason) names = names
   opened_well (walked.Need j) names = routed_well (walked.Need j) names

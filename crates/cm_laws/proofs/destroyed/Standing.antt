@@ -4,6 +4,8 @@ use Rattle.std.proofs.Common.{◌≡◌, ℕ, List, [], ◌∷◌, ◌++◌, map
 use Rattle.std.specs.List.{list_all}
 use Rattle.std.specs.Str.{bytes_eq}
 use Rattle.std.proofs.lemmas.List.Folds.{list_all-map, list_all-append}
+use Rattle.std.specs.Cmp.{first_so, second_so}
+use Rattle.std.proofs.lemmas.Bool.{not-true}
 use Rattle.cm_names.specs.declared.availability.Availability.{Availability}
 use Rattle.cm_names.specs.Availability.{fits}
 use Rattle.cm_names.specs.Rights.{RightSet, contains}
@@ -18,7 +20,6 @@ use Rattle.cm_decl.specs.declared.rows.Usage.{Usage}
 use Rattle.cm_decl.specs.declared.rows.Offer.{Offer}
 use Rattle.cm_decl.specs.declared.rows.Give.{Give}
 use Rattle.cm_decl.specs.declared.rows.Capability.{Capability}
-use Rattle.cm_decl.proofs.Sameness.{and_first, and_second}
 use Rattle.cm_world.specs.declared.row.Row.{Row}
 use Rattle.cm_world.specs.declared.frame.Builtin.{Builtin}
 use Rattle.cm_world.specs.declared.route.Hop.{Hop}
@@ -36,7 +37,7 @@ use Rattle.cm_world.specs.NextStation.{NextStation, To, Ends, Needs, FromVoid, N
 use Rattle.cm_world.specs.Route.{Named, First, NoUse, NoneExposed, named_by, IsChain, provider_of, route_of, weak_availability, weak_rights, unless_fitting, unless_within, is_offer_or_expose, standing as available, asked_rights, said_by, trial_by, IsDecided, IsWalkedFrom, IsWalked}
 use Rattle.cm_world.proofs.trees.Finding.{none_some, some_same, row_of-inc, find-passes}
 use Rattle.cm_world.proofs.trees.Walks.{find-lives}
-use Rattle.cm_order.proofs.trees.Trees.{some_eq, and_pair, not_true, flip_not, true_not_false}
+use Rattle.cm_order.proofs.trees.Trees.{some_eq, and_pair, not_true, true_not_false}
 use Rattle.cm_laws.specs.Destroying.{incs_of_provider, incs_of_route}
 use Rattle.cm_laws.proofs.sound.Above.{above_up, above_cases}
 
@@ -56,7 +57,7 @@ module _ (rows : List Row) (next : ℕ) (orderly : IsOrderly rows next) where
 
   spared_by : (a b : Bool) → IsTrue (not (a || b)) → b ≡ false
   spared_by true b h = true_not_false false h refl
-  spared_by false b h = flip_not b h
+  spared_by false b h = not-true b h
 
   spared : (i : ℕ) → IsTrue (stands rows i) → is_doomed rows i ≡ false
   spared i h = spared_by (not (is_some (row_of rows i))) (is_doomed rows i) h
@@ -88,9 +89,9 @@ module _ (rows : List Row) (next : ℕ) (orderly : IsOrderly rows next) where
   found_child p j c (Some r) f e h =
       let test : Row → Bool = λ r. has_parent p r && has_name c r && not r.doomed in
       let passes : IsTrue (test r) = find-passes test rows r f in
-      let named : IsTrue (has_parent p r && has_name c r) = and_first (has_parent p r && has_name c r) (not r.doomed) passes in
+      let named : IsTrue (has_parent p r && has_name c r) = first_so (has_parent p r && has_name c r) (not r.doomed) passes in
       subst (λ i. IsTrue (stands rows i)) (some_same r.inc j e)
-      (stands_down r.inc p r (find-lives test rows next r orderly.increasing f) (some_eq r.parent p (and_first (has_parent p r) (has_name c r) named)) (flip_not r.doomed (and_second (has_parent p r && has_name c r) (not r.doomed) passes)) h)
+      (stands_down r.inc p r (find-lives test rows next r orderly.increasing f) (some_eq r.parent p (first_so (has_parent p r) (has_name c r) named)) (not-true r.doomed (second_so (has_parent p r && has_name c r) (not r.doomed) passes)) h)
 
   -- a child that is found by its name
   pub child_stands : (p j : ℕ) (c : ChildName) → child_of rows p c ≡ Some j → IsTrue (stands rows p) → IsTrue (stands rows j)

@@ -2,7 +2,8 @@
 use Rattle.std.proofs.Common.{◌≡◌, ℕ, List, [], ◌∷◌, false, cond, ◌&&◌, ◌==◌, not, true≢false, Option, Some, None, IsTrue, find, is_some, option_map, option_and_then, refl, sym, ◌∙◌, ap, subst, inl, inr, ◌⊎◌}
 use Rattle.std.specs.List.{list_any}
 use Rattle.std.specs.Option.{option_eq}
-use Rattle.std.specs.Cmp.{unsigned_Decides}
+use Rattle.std.specs.Cmp.{unsigned_Decides, first_so, second_so}
+use Rattle.std.proofs.lemmas.Bool.{not-true}
 use Rattle.cm_names.specs.declared.child.ChildName.{ChildName}
 use Rattle.cm_decl.specs.declared.decl.Decl.{Decl}
 use Rattle.cm_decl.specs.declared.origin.Origin.{Origin}
@@ -10,7 +11,7 @@ use Rattle.cm_decl.specs.declared.origin.Origin.TheVariants as origin
 use Rattle.cm_decl.specs.Same.{same_child}
 use Rattle.cm_decl.specs.Graph.{own_sources, child_sources}
 use Rattle.cm_decl.specs.Reach.{NoCycle}
-use Rattle.cm_decl.proofs.Sameness.{and_first, and_second, or_split, never, same_child_exact}
+use Rattle.cm_decl.proofs.Sameness.{or_split, never, same_child_exact}
 use Rattle.cm_world.specs.declared.row.Row.{Row}
 use Rattle.cm_world.specs.Rows.{row_of, is_live, decl_of, has_parent, has_name, child_of}
 use Rattle.cm_world.specs.Level.{is_child_row, is_level_node, row_sources, child_row_sources, level_sources, is_from_row, LevelStrong}
@@ -19,7 +20,7 @@ use Rattle.cm_world.proofs.trees.Finding.{none_some, some_same, find-passes}
 use Rattle.cm_world.proofs.trees.Levels.{edge_source, edge_node}
 use Rattle.cm_world.proofs.trees.Walks.{find-lives}
 use Rattle.cm_order.specs.Kids.{IsKid}
-use Rattle.cm_order.proofs.trees.Trees.{some_eq, eq_some, or_left, or_right, and_pair, flip_not}
+use Rattle.cm_order.proofs.trees.Trees.{some_eq, eq_some, or_left, or_right, and_pair}
 use Rattle.cm_order.proofs.names.Naming.{IsNamedKid, kid_found}
 use Rattle.cm_order.proofs.names.Edges.{kid_node, node_kid}
 use Rattle.cm_laws.proofs.levels.Mapped.{IsMapped, mapped_acyclic}
@@ -70,15 +71,15 @@ module _ (rows : List Row) (next : ℕ) (increasing : IncarnationsIncrease next 
   found_by c x None found e = absurd (none_some x e)
   found_by c x (Some r) found e =
       let passes : IsTrue (has_parent p r && has_name c r && not r.doomed) = find-passes (λ r. has_parent p r && has_name c r && not r.doomed) rows r found in
-      let both : IsTrue (has_parent p r && has_name c r) = and_first (has_parent p r && has_name c r) (not r.doomed) passes in
+      let both : IsTrue (has_parent p r && has_name c r) = first_so (has_parent p r && has_name c r) (not r.doomed) passes in
       subst (λ i. IsNamedKid rows p i c) (some_same r.inc x e) (record {
         kid = record {
           row = r;
           lives = find-lives (λ r. has_parent p r && has_name c r && not r.doomed) rows next r increasing found;
-          parent = some_eq r.parent p (and_first (has_parent p r) (has_name c r) both);
+          parent = some_eq r.parent p (first_so (has_parent p r) (has_name c r) both);
         };
-        there = flip_not r.doomed (and_second (has_parent p r && has_name c r) (not r.doomed) passes);
-        name = name_by r.name c (and_second (has_parent p r) (has_name c r) both);
+        there = not-true r.doomed (second_so (has_parent p r && has_name c r) (not r.doomed) passes);
+        name = name_by r.name c (second_so (has_parent p r) (has_name c r) both);
       })
 
   -- it has that name, and isn't doomed
@@ -146,7 +147,7 @@ module _ (old new : List Row) (next n : ℕ) (orderly : IsOrderly old next) (inc
         let from : IsTrue (list_any (is_from_row old p y) (level_sources old p x)) = subst (λ l. IsTrue (list_any (is_from_row old p y) l)) (sources_was x node) (any_was y (level_sources new p x) (edge_source new p x y strong)) in
         and_pair (list_any (is_from_row old p y) (level_sources old p x) && is_level_node old p x) (is_level_node old p y)
         (and_pair (list_any (is_from_row old p y) (level_sources old p x)) (is_level_node old p x) from (node_was x node))
-        (node_was y (and_second (list_any (is_from_row new p y) (level_sources new p x) && is_level_node new p x) (is_level_node new p y) strong))
+        (node_was y (second_so (list_any (is_from_row new p y) (level_sources new p x) && is_level_node new p x) (is_level_node new p y) strong))
 
   edge_by : (x y : ℕ) → LevelStrong new p x y → (o : Option Decl) → decl_of new p ≡ o → LevelStrong old p x y
   edge_by x y strong None none =

@@ -6,7 +6,6 @@ use Rattle.cm_names.specs.declared.child.ChildName.{ChildName}
 use Rattle.cm_decl.specs.declared.decl.Decl.{Decl}
 use Rattle.cm_decl.specs.Graph.{static_name}
 use Rattle.cm_decl.specs.Same.{same_child}
-use Rattle.cm_decl.proofs.Sameness.{and_second}
 use Rattle.cm_world.specs.declared.row.Row.{Row}
 use Rattle.cm_world.specs.Rows.{row_of, has_parent, has_name, is_closing}
 use Rattle.cm_world.specs.End.{changed}
@@ -14,6 +13,7 @@ use Rattle.cm_world.specs.Sound.{IsOrderly, IsWellShut, is_static_child, HasStat
 use Rattle.cm_world.proofs.trees.Finding.{row_of-inc}
 use Rattle.cm_table.proofs.tree.Orderly.{IsKeeping, orderly_changed}
 use Rattle.std.proofs.lemmas.List.Sums.{sum_by-cons}
+use Rattle.std.specs.Cmp.{second_so}
 use Rattle.cm_laws.proofs.sound.Rows.{Lasts, Follows, closing_lasts, Kept, kept, follows_changed}
 use Rattle.cm_laws.proofs.levels.Acyclic.{KeepsLevels, acyclic_changed}
 
@@ -121,7 +121,7 @@ module _ (rows : List Row) (i : ℕ) (f : Row → Row) (keeps : KeepsStatic rows
     kept_by j r s here (inr own) static =
         let before : IsTrue (is_static_child p r) = sym (static_same r) ∙ subst (λ z. IsTrue (is_static_child p z)) own.1 static in
         let k : (r.doomed ≡ false) × (r.gives ≡ []) = was.kept j r here before in
-        let named : IsTrue (is_static_name r.name) = and_second (has_parent p r) (is_static_name r.name) before in (
+        let named : IsTrue (is_static_name r.name) = second_so (has_parent p r) (is_static_name r.name) before in (
           ap (λ z. z.doomed) own.1 ∙ keeps.spares r (sym (ap (row_of rows) own.0) ∙ here) named k.0,
           ap (λ z. z.gives) own.1 ∙ keeps.gives r ∙ k.1,
         )

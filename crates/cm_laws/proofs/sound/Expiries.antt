@@ -4,11 +4,11 @@ use Rattle.std.proofs.Common.{◌≡◌, ℕ, ◌<◌, List, [], ◌∷◌, ◌+
 use Rattle.std.proofs.Common.{◌&&◌, ◌==◌, Option, Some, None, IsSome, is_some, map, option_map}
 use Rattle.std.proofs.Common.{option_and_then, IsTrue, refl, sym, ◌∙◌, ap, subst, arith, append_assoc, inl, inr, ◌⊎◌}
 use Rattle.std.specs.Option.{option_map_or}
-use Rattle.std.specs.Cmp.{unsigned_Decides}
+use Rattle.std.specs.Cmp.{unsigned_Decides, first_so, second_so}
 use Rattle.std.proofs.lemmas.Bool.{false_from_ne_true}
 use Rattle.cm_names.specs.declared.child.ChildName.{ChildName}
 use Rattle.cm_decl.specs.declared.decl.Decl.{Decl}
-use Rattle.cm_decl.proofs.Sameness.{and_first, and_second, never}
+use Rattle.cm_decl.proofs.Sameness.{never}
 use Rattle.cm_world.specs.declared.row.Row.{Row}
 use Rattle.cm_world.specs.declared.action.Act.{Act}
 use Rattle.cm_world.specs.declared.action.ActKind.{ActKind}
@@ -58,12 +58,12 @@ goes_by : (rows : List Row) (i : ℕ) (r : Row) (closed once : Bool) → runs_on
 goes_by rows i r true once is lives goes = absurd (never goes)
 goes_by rows i r false true is lives goes =
     once_row rows i r (ap (row_of rows) (sym ((unsigned_Decides r.inc i).0 goes)) ∙ lives) is
-goes_by rows i r false false is lives goes = and_second (has_parent i r) (is_dynamic r) goes
+goes_by rows i r false false is lives goes = second_so (has_parent i r) (is_dynamic r) goes
 
 -- a row that goes, and isn't doomed yet, is in a collection
 goes_dynamic : (rows : List Row) (i : ℕ) (r : Row) → row_of rows r.inc ≡ Some r → IsTrue (goes_with rows i r && not r.doomed) → is_dynamic r ≡ true
 goes_dynamic rows i r lives goes =
-    goes_by rows i r (is_closed rows i) (runs_once rows i) refl lives (and_first (goes_with rows i r) (not r.doomed) goes)
+    goes_by rows i r (is_closed rows i) (runs_once rows i) refl lives (first_so (goes_with rows i r) (not r.doomed) goes)
 
 -- ---- the rows behind
 

@@ -2,8 +2,9 @@
 use Rattle.std.proofs.Common.{◌≡◌, ℕ, ◌+◌, ◌≤◌, List, [], ◌∷◌, ◌++◌, Bool, true, false, cond, not, ◌&&◌, ◌==◌, nat_eq, true≢false, length, Option, Some, None, is_some, is_none, option_and_then, IsTrue, refl, sym, ◌∙◌, ap, subst, arith, inl, inr, ◌⊎◌}
 use Rattle.std.specs.List.{count_by, list_all}
 use Rattle.std.specs.Option.{option_eq}
-use Rattle.std.specs.Cmp.{unsigned_Decides}
+use Rattle.std.specs.Cmp.{unsigned_Decides, first_so, second_so}
 use Rattle.std.proofs.lemmas.List.Sums.{sum_by-append}
+use Rattle.std.proofs.lemmas.Bool.{not-true}
 use Rattle.cm_names.specs.declared.child.ChildName.{ChildName}
 use Rattle.cm_decl.specs.declared.decl.Decl.{Decl}
 use Rattle.cm_decl.specs.declared.rows.Child.{Child}
@@ -12,7 +13,7 @@ use Rattle.cm_decl.specs.Graph.{static_name, StrongOn}
 use Rattle.cm_decl.specs.Same.{same_child}
 use Rattle.cm_decl.specs.Reach.{NoCycle}
 use Rattle.cm_decl.specs.Valid.{IsValid}
-use Rattle.cm_decl.proofs.Sameness.{and_first, and_second, never, same_child_exact}
+use Rattle.cm_decl.proofs.Sameness.{never, same_child_exact}
 use Rattle.cm_world.specs.declared.row.Row.{Row}
 use Rattle.cm_world.specs.declared.action.Outcome.TheVariants as outcome
 use Rattle.cm_world.specs.declared.action.Finish.TheVariants as finish
@@ -28,7 +29,7 @@ use Rattle.cm_table.proofs.tree.Growth.{childless}
 use Rattle.cm_table.proofs.tree.Taking.{orderly_taken}
 use Rattle.cm_table.proofs.tree.Adding.{orderly_added}
 use Rattle.cm_table.specs.declared.change.Change.TheVariants.{Resolve}
-use Rattle.cm_order.proofs.trees.Trees.{all_rows, some_eq, not_true, not_flip, flip_not, true_not_false}
+use Rattle.cm_order.proofs.trees.Trees.{all_rows, some_eq, not_true, not_flip, true_not_false}
 use Rattle.cm_laws.proofs.actions.Tasks.{by_test, find_split}
 use Rattle.cm_laws.proofs.sound.Rows.{Follows, follows_itself, follows_more, Kept, kept}
 use Rattle.cm_laws.proofs.sound.Changes.{count-cons, AreClosedWell, still_shut, IsFair, closed_changed, KeepsStatic, is_static_name, static_changed, places_same}
@@ -79,7 +80,7 @@ no_more q x xs here rest = count-cons q x xs ∙ ap (λ b. cond b 1 0 + count_by
 pub count_none : (q t : Row → Bool) (xs : List Row) → ((x : Row) → IsTrue (t x) → q x ≡ false) → IsTrue (list_all t xs) → count_by q xs ≡ 0
 count_none q t [] against all = refl
 count_none q t (x ∷ xs) against all =
-    no_more q x xs (against x (and_first (t x) (list_all t xs) all)) (count_none q t xs against (and_second (t x) (list_all t xs) all))
+    no_more q x xs (against x (first_so (t x) (list_all t xs) all)) (count_none q t xs against (second_so (t x) (list_all t xs) all))
 
 -- a name that is found among the declared ones has no collection
 pub static_named : (o : Option ChildName) (name : List ℕ) → IsTrue (option_eq same_child o (Some (static_name name))) → IsTrue (is_static_name o)
@@ -90,7 +91,7 @@ static_named (Some c) name h =
 both : (a b c : Bool) → (IsTrue b → IsTrue c) → IsTrue (not (a && c)) → (a && b) ≡ false
 both false b c more h = refl
 both true false c more h = refl
-both true true c more h = true_not_false c (more refl) (flip_not c h)
+both true true c more h = true_not_false c (more refl) (not-true c h)
 
 -- a row that is no child of p by such a name is none by a given one
 not_named : (p : ℕ) (name : List ℕ) (r : Row) → IsTrue (not (is_static_child p r)) → (has_parent p r && has_name (static_name name) r) ≡ false
@@ -108,7 +109,7 @@ module _ (rows kids : List Row) (p : ℕ) (others : IsTrue (list_all (λ r. not 
   kept_by : (d : Decl) → HasStatic rows p d → (i : ℕ) (s : Row) → (row_of rows i ≡ Some s) ⊎ (row_of kids i ≡ Some s) → IsTrue (is_static_child p s) → (s.doomed ≡ false) × (s.gives ≡ [])
   kept_by d was i s (inl old) static = was.kept i s old static
   kept_by d was i s (inr kid) static =
-      true_not_false (is_static_child p s) static (flip_not (is_static_child p s) (find-all (λ r. r.inc == i) (λ r. not (is_static_child p r)) kids s others kid))
+      true_not_false (is_static_child p s) static (not-true (is_static_child p s) (find-all (λ r. r.inc == i) (λ r. not (is_static_child p r)) kids s others kid))
 
   pub static_more : (d : Decl) → HasStatic rows p d → HasStatic (rows ++ kids) p d
   static_more d was = record {
@@ -277,7 +278,7 @@ module _ (rows : List Row) (next i : ℕ) (url : List ℕ) (d : Decl) (r : Row) 
   own_by : (j : ℕ) (s : Row) → (row_of now j ≡ Some s) ⊎ (row_of kids j ≡ Some s) → IsTrue (is_static_child i s) → (s.doomed ≡ false) × (s.gives ≡ [])
   own_by j s (inl here) static =
       let k : Kept rows i take j s = kept rows i take (λ s. refl) j s here in
-      absurd (no_child j k.row k.was (sym (same_parent k.row k.is) ∙ some_eq s.parent i (and_first (has_parent i s) (is_static_name s.name) static)))
+      absurd (no_child j k.row k.was (sym (same_parent k.row k.is) ∙ some_eq s.parent i (first_so (has_parent i s) (is_static_name s.name) static)))
     where
       same_parent : (q : Row) → (s ≡ q) ⊎ ((j ≡ i) × (s ≡ take q)) → s.parent ≡ q.parent
       same_parent q (inl same) = ap (λ z. z.parent) same

@@ -1,15 +1,17 @@
 -- A purge leaves the tree sound: the rows at and below one are taken away, which is doomed and shut with all below it.
 use Rattle.std.proofs.Common.{◌≡◌, ℕ, ◌+◌, List, [], ◌∷◌, Bool, true, false, cond, not, ◌&&◌, ◌||◌, true≢false, Some, IsSome, IsTrue, filter, refl, sym, ◌∙◌, ap, subst, arith, inl, inr}
 use Rattle.std.specs.List.{count_by, list_all}
+use Rattle.std.specs.Cmp.{first_so, second_so}
+use Rattle.std.proofs.lemmas.Bool.{not-true}
 use Rattle.cm_decl.specs.declared.decl.Decl.{Decl}
 use Rattle.cm_decl.specs.Graph.{static_name}
-use Rattle.cm_decl.proofs.Sameness.{and_first, and_second, never}
+use Rattle.cm_decl.proofs.Sameness.{never}
 use Rattle.cm_world.specs.declared.row.Row.{Row}
 use Rattle.cm_world.specs.Rows.{row_of, is_below, has_parent, has_name}
 use Rattle.cm_world.specs.After.{others_than}
 use Rattle.cm_world.specs.Sound.{IsOrderly, IsParent, is_static_child, HasStatic, IsSound}
 use Rattle.cm_world.proofs.trees.Finding.{some_same, row_of-inc}
-use Rattle.cm_order.proofs.trees.Trees.{all_rows, some_eq, and_pair, not_true, not_flip, flip_not, true_not_false, below_up, below_cases}
+use Rattle.cm_order.proofs.trees.Trees.{all_rows, some_eq, and_pair, not_true, not_flip, true_not_false, below_up, below_cases}
 use Rattle.cm_laws.proofs.sound.Rows.{was_left, is_left, increasing_left, Follows, follows_left}
 use Rattle.cm_laws.proofs.sound.Changes.{count-cons, AreClosedWell, still_shut, is_static_name}
 use Rattle.cm_laws.proofs.sound.Growth.{static_named}
@@ -30,8 +32,8 @@ left_by q keep false x xs e kept more = fails (q x) refl kept where
 pub count_left : (q keep : Row → Bool) (xs : List Row) → IsTrue (list_all (λ r. not (q r) || keep r) xs) → count_by q (filter keep xs) ≡ count_by q xs
 count_left q keep [] all = refl
 count_left q keep (x ∷ xs) all =
-    left_by q keep (keep x) x xs refl (and_first (not (q x) || keep x) (list_all (λ r. not (q r) || keep r) xs) all)
-    (count_left q keep xs (and_second (not (q x) || keep x) (list_all (λ r. not (q r) || keep r) xs) all))
+    left_by q keep (keep x) x xs refl (first_so (not (q x) || keep x) (list_all (λ r. not (q r) || keep r) xs) all)
+    (count_left q keep xs (second_so (not (q x) || keep x) (list_all (λ r. not (q r) || keep r) xs) all))
 
 -- ---- rows that are left
 
@@ -40,7 +42,7 @@ module _ (rows : List Row) (next top : ℕ) (was : IsOrderly rows next) where
   pub stood : (i : ℕ) (r : Row) → row_of (others_than rows top) i ≡ Some r → (row_of rows i ≡ Some r) × (is_below rows top i ≡ false)
   stood i r lives =
       let both : (row_of rows i ≡ Some r) × (not (is_below rows top i) ≡ true) = was_left (λ j. not (is_below rows top j)) rows i r lives in
-      (both.0, flip_not (is_below rows top i) both.1)
+      (both.0, not-true (is_below rows top i) both.1)
 
   pub stands : (i : ℕ) (r : Row) → row_of rows i ≡ Some r → is_below rows top i ≡ false → row_of (others_than rows top) i ≡ Some r
   stands i r lives outside = is_left (λ j. not (is_below rows top j)) rows i r lives (not_flip (is_below rows top i) outside)
@@ -94,15 +96,15 @@ module _ (rows : List Row) (next top : ℕ) (sound : IsSound rows next) (t : Row
   static_stays : (p : ℕ) (d : Decl) → HasStatic rows p d → is_below rows top p ≡ false → (i : ℕ) (r : Row) → row_of rows i ≡ Some r → IsTrue (is_static_child p r) → is_below rows top i ≡ false
   static_stays p d was outside i r here static =
       not_true (is_below rows top i)
-      (λ below. let up : r.parent ≡ Some p = some_eq r.parent p (and_first (has_parent p r) (is_static_name r.name) static) in
+      (λ below. let up : r.parent ≡ Some p = some_eq r.parent p (first_so (has_parent p r) (is_static_name r.name) static) in
       let same : i ≡ top = goes_alone rows next top sound.orderly i p r here up outside below in
       let one : r ≡ t = some_same r t (sym here ∙ ap (row_of rows) same ∙ lives) in
       true≢false (sym doomed ∙ sym (ap (λ z. z.doomed) one) ∙ (was.kept i r here static).0))
 
   named_child : (p : ℕ) (name : List ℕ) (r : Row) → IsTrue (has_parent p r && has_name (static_name name) r) → IsTrue (is_static_child p r)
   named_child p name r h =
-      and_pair (has_parent p r) (is_static_name r.name) (and_first (has_parent p r) (has_name (static_name name) r) h)
-      (static_named r.name name (and_second (has_parent p r) (has_name (static_name name) r) h))
+      and_pair (has_parent p r) (is_static_name r.name) (first_so (has_parent p r) (has_name (static_name name) r) h)
+      (static_named r.name name (second_so (has_parent p r) (has_name (static_name name) r) h))
 
   each_left : (p : ℕ) (d : Decl) (name : List ℕ) → HasStatic rows p d → is_below rows top p ≡ false → IsTrue (list_all (λ r. not (has_parent p r && has_name (static_name name) r) || not (is_below rows top r.inc)) rows)
   each_left p d name was outside =

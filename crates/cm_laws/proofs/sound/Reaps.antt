@@ -7,7 +7,7 @@ use Rattle.std.specs.Option.{option_map_or}
 use Rattle.std.proofs.lemmas.List.Elements.{All-contains}
 use Rattle.std.proofs.lemmas.List.Sums.{AllPass-from_list_all}
 use Rattle.std.proofs.lemmas.List.Folds.{list_all-map}
-use Rattle.cm_decl.proofs.Sameness.{and_first, and_second}
+use Rattle.std.specs.Cmp.{first_so, second_so}
 use Rattle.cm_world.specs.declared.row.Row.{Row}
 use Rattle.cm_world.specs.Rows.{row_of, is_live, has_doomed, has_parent}
 use Rattle.cm_world.specs.Sound.{IsOrderly}
@@ -19,8 +19,8 @@ use Rattle.cm_order.proofs.trees.Trees.{all_rows, and_pair}
 all_filtered : {A : Type 0} (p q : A → Bool) (xs : List A) → IsTrue (list_all (λ x. not (p x) || q x) xs) → IsTrue (list_all q (filter p xs))
 all_filtered p q [] all = refl
 all_filtered p q (x ∷ xs) all =
-    left_by (p x) (and_first (not (p x) || q x) (list_all (λ y. not (p y) || q y) xs) all)
-    (all_filtered p q xs (and_second (not (p x) || q x) (list_all (λ y. not (p y) || q y) xs) all))
+    left_by (p x) (first_so (not (p x) || q x) (list_all (λ y. not (p y) || q y) xs) all)
+    (all_filtered p q xs (second_so (not (p x) || q x) (list_all (λ y. not (p y) || q y) xs) all))
   where
     left_by : (b : Bool) → IsTrue (not b || q x) → IsTrue (list_all q (filter p xs)) → IsTrue (list_all q (cond b (x ∷ filter p xs) (filter p xs)))
     left_by true here more = and_pair (q x) (list_all q (filter p xs)) here more
@@ -80,4 +80,4 @@ module _ (rows : List Row) (next : ℕ) (orderly : IsOrderly rows next) where
 pub all_more : (p q : ℕ → Bool) → ((j : ℕ) → IsTrue (p j) → IsTrue (q j)) → (xs : List ℕ) → IsTrue (list_all p xs) → IsTrue (list_all q xs)
 all_more p q more [] all = refl
 all_more p q more (x ∷ xs) all =
-    and_pair (q x) (list_all q xs) (more x (and_first (p x) (list_all p xs) all)) (all_more p q more xs (and_second (p x) (list_all p xs) all))
+    and_pair (q x) (list_all q xs) (more x (first_so (p x) (list_all p xs) all)) (all_more p q more xs (second_so (p x) (list_all p xs) all))

@@ -1,6 +1,7 @@
 -- What a reply says of the tree that it was given in.
 use Rattle.std.proofs.Common.{◌≡◌, ℕ, List, Bool, true, false, cond, not, ◌&&◌, ◌||◌, true≢false, Option, Some, None, is_some, IsTrue, refl, sym, ◌∙◌, ap, inl, inr}
 use Rattle.std.specs.Option.{option_map_or}
+use Rattle.std.specs.Cmp.{first_so, second_so}
 use Rattle.cm_decl.specs.declared.decl.Decl.{Decl}
 use Rattle.cm_decl.specs.declared.rows.Collection.{Collection}
 use Rattle.cm_decl.specs.declared.rows.Give.{Give}
@@ -17,7 +18,6 @@ use Rattle.cm_world.specs.Step.{may_purge}
 use Rattle.cm_world.specs.Sound.{IsOrderly}
 use Rattle.cm_world.specs.Stopping.{MayPick}
 use Rattle.cm_world.proofs.trees.Finding.{none_some, find-passes}
-use Rattle.cm_decl.proofs.Sameness.{and_first, and_second}
 use Rattle.cm_order.proofs.trees.Trees.{climb, below_cases, below_lives}
 use Rattle.cm_laws.proofs.entries.Answered.{passes_or, PassesRefusals, refused_passes}
 use Rattle.cm_laws.proofs.sound.Above.{above_here, above_up}
@@ -146,8 +146,8 @@ purging_by rows i lost None whole e same may = absurd (cc)
 purging_by rows i lost (Some r) whole e same may = record {
   row = r;
   lives = e;
-  doomed = and_first r.doomed (is_subtree_shut rows i) may;
-  shut = and_second r.doomed (is_subtree_shut rows i) may;
+  doomed = first_so r.doomed (is_subtree_shut rows i) may;
+  shut = second_so r.doomed (is_subtree_shut rows i) may;
 }
 
 pub purging : (rows : List Row) (i : ℕ) (lost : List Lost) → IsTrue (may_purge rows i) → reply.Purged lost ≡ purge_reply rows i → IsPurging rows i

@@ -4,12 +4,14 @@ use Rattle.std.specs.List.{list_any}
 use Rattle.std.specs.Option.{option_map_or}
 use Rattle.std.specs.Str.{bytes_eq}
 use Rattle.std.proofs.lemmas.List.Folds.{list_any-append, list_any_at}
+use Rattle.std.specs.Cmp.{first_so, second_so}
+use Rattle.std.proofs.lemmas.Bool.{not-true}
 use Rattle.cm_names.specs.declared.child.ChildName.{ChildName}
 use Rattle.cm_decl.specs.declared.decl.Decl.{Decl}
 use Rattle.cm_decl.specs.declared.rows.Give.{Give}
 use Rattle.cm_decl.specs.declared.rows.Offer.{Offer}
 use Rattle.cm_decl.specs.Graph.{is_strong, target_of, child_sources, offers_to}
-use Rattle.cm_decl.proofs.Sameness.{and_first, and_second, or_split, never}
+use Rattle.cm_decl.proofs.Sameness.{or_split, never}
 use Rattle.cm_world.specs.declared.row.Row.{Row}
 use Rattle.cm_world.specs.Rows.{row_of, decl_of, is_subtree_shut}
 use Rattle.cm_world.specs.RowsInside.{name_of}
@@ -18,7 +20,7 @@ use Rattle.cm_world.specs.Sound.{IsSound}
 use Rattle.cm_order.specs.Kids.{IsKid}
 use Rattle.cm_order.specs.Search.{IsFreeAt}
 use Rattle.cm_order.specs.Glances.{is_given_from, is_offered_from}
-use Rattle.cm_order.proofs.trees.Trees.{or_left, or_right, and_pair, true_not_false, below_self, shut_each, not_true, flip_not}
+use Rattle.cm_order.proofs.trees.Trees.{or_left, or_right, and_pair, true_not_false, below_self, shut_each, not_true}
 use Rattle.cm_order.proofs.levels.Gathering.{kid_shut}
 use Rattle.cm_order.proofs.names.Edges.{kid_node}
 use Rattle.cm_order.proofs.names.Sources.{kid_all, gives_same}
@@ -46,7 +48,7 @@ module _ (rows : List Row) (next : ℕ) (sound : IsSound rows next) (p : ℕ) wh
   from_strong : (d : Decl) (c : ChildName) (gives : List Give) (x : ℕ) → IsTrue (list_any (is_given_from rows p x) (offers_to d c ++ gives)) → IsTrue (list_any (is_from_row rows p x) (child_sources d c gives))
   from_strong d c gives x any =
       any_to (is_from_row rows p x) (λ (g : Give). g.from) (λ g. is_strong g.dependency) (is_given_from rows p x)
-      (λ g comes. (and_first (is_strong g.dependency) (is_from_row rows p x g.from) comes, and_second (is_strong g.dependency) (is_from_row rows p x g.from) comes)) (offers_to d c ++ gives) any
+      (λ g comes. (first_so (is_strong g.dependency) (is_from_row rows p x g.from) comes, second_so (is_strong g.dependency) (is_from_row rows p x g.from) comes)) (offers_to d c ++ gives) any
 
   from_given : (d : Decl) (c : ChildName) (gives : List Give) (x : ℕ) → IsTrue (list_any (is_given_from rows p x) gives) → IsTrue (list_any (is_from_row rows p x) (child_sources d c gives))
   from_given d c gives x any =
@@ -56,7 +58,7 @@ module _ (rows : List Row) (next : ℕ) (sound : IsSound rows next) (p : ℕ) wh
   from_offered d c gives x any =
       let offers : IsTrue (list_any (is_given_from rows p x) (offers_to d c)) =
       any_to (is_given_from rows p x) (λ (o : Offer). o.give) (λ o. bytes_eq o.to (target_of c)) (is_offered_from rows p (target_of c) x)
-      (λ o comes. (and_first (bytes_eq o.to (target_of c)) (is_given_from rows p x o.give) comes, and_second (bytes_eq o.to (target_of c)) (is_given_from rows p x o.give) comes)) d.offers any in
+      (λ o comes. (first_so (bytes_eq o.to (target_of c)) (is_given_from rows p x o.give) comes, second_so (bytes_eq o.to (target_of c)) (is_given_from rows p x o.give) comes)) d.offers any in
       from_strong d c gives x (list_any-append (is_given_from rows p x) (offers_to d c) gives ∙ or_left (list_any (is_given_from rows p x) (offers_to d c)) (list_any (is_given_from rows p x) gives) offers)
 
   row_from : (d : Decl) (r : Row) (c : ChildName) (x : ℕ) → r.name ≡ Some c → IsTrue (list_any (is_from_row rows p x) (child_sources d c r.gives)) → IsTrue (list_any (is_from_row rows p x) (row_sources d r))
@@ -84,4 +86,4 @@ module _ (rows : List Row) (next : ℕ) (sound : IsSound rows next) (p : ℕ) wh
   bound_by z x kid unshut strong leads =
       true_not_false (is_subtree_shut rows z) (sym (kid_shut rows next sound.orderly p z kid) ∙ leads.free z ([], inl strong))
       (not_true (is_subtree_shut rows z) (λ all. true_not_false kid.row.shut (shut_each rows next sound.orderly z z kid.row all kid.lives (below_self rows next sound.orderly z kid.row kid.lives))
-      (flip_not kid.row.shut (sym (ap (λ o. option_map_or (λ r. not r.shut) o false) kid.lives) ∙ unshut))))
+      (not-true kid.row.shut (sym (ap (λ o. option_map_or (λ r. not r.shut) o false) kid.lives) ∙ unshut))))

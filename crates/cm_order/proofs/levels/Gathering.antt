@@ -1,11 +1,10 @@
 -- What a loop over the children of a row gathers.
 use Rattle.std.proofs.Common.{◌≡◌, ℕ, ◌+◌, ◌-◌, ◌<◌, List, [], ◌∷◌, ◌++◌, Bool, true, false, cond, ◌&&◌, ◌==◌, nat_lt, true≢false, Option, Some, None, IsTrue, IsSome, find, filter, flat_map, is_some, option_map, option_and_then, refl, sym, ◌∙◌, ap, subst, inl, inr, ◌⊎◌, arith, append_assoc, append-nil}
 use Rattle.std.specs.Option.{option_map_or}
-use Rattle.std.specs.Cmp.{unsigned_Decides}
-use Rattle.std.proofs.lemmas.Bool.{lt-ltb, ltb-true, le-ltb}
+use Rattle.std.specs.Cmp.{unsigned_Decides, second_so}
+use Rattle.std.proofs.lemmas.Bool.{lt-ltb, ltb-true, le-ltb, and_right}
 use Rattle.std.proofs.lemmas.List.Folds.{list_any-append}
 use Rattle.cm_decl.specs.declared.node.DynChild.{DynChild}
-use Rattle.cm_decl.proofs.Sameness.{and_second}
 use Rattle.cm_world.specs.declared.row.Row.{Row}
 use Rattle.cm_world.specs.Rows.{row_of, has_parent, is_shut, is_subtree_shut}
 use Rattle.cm_world.specs.RowsInside.{is_behind, child_behind}
@@ -57,17 +56,13 @@ same_rows q r b same (s ∷ ss) above =
     keep false true is other both rest = absurd (true≢false (sym other ∙ sym both ∙ is))
     keep false false is other both rest = rw (is, other) rest
 
-false_and : (p q : Bool) → q ≡ false → (p && q) ≡ false
-false_and true q h = h
-false_and false q h = refl
-
 true_and : (p q : Bool) → q ≡ true → (p && q) ≡ p
 true_and true q h = h
 true_and false q h = refl
 
 module _ (p : ℕ) where
   is_later : (after : Option ℕ) (s t : Row) → IsTrue (has_parent p s && is_behind after s.inc) → s.inc < t.inc → IsTrue (is_behind after t.inc)
-  is_later after s t passes low = by after (and_second (has_parent p s) (is_behind after s.inc) passes) where
+  is_later after s t passes low = by after (second_so (has_parent p s) (is_behind after s.inc) passes) where
     by : (after : Option ℕ) → IsTrue (is_behind after s.inc) → IsTrue (is_behind after t.inc)
     by None behind = refl
     by (Some b) behind = lt-ltb b t.inc (let less : b < s.inc = ltb-true b s.inc behind in omega arith)
@@ -79,7 +74,7 @@ module _ (p : ℕ) where
     by : (t : Bool) → (has_parent p s && is_behind after s.inc) ≡ t → (find (λ s. has_parent p s && is_behind after s.inc) ss ≡ Some r → kids ss p after ≡ r ∷ kids ss p (Some r.inc)) → kids (s ∷ ss) p after ≡ r ∷ kids (s ∷ ss) p (Some r.inc)
     by true is more =
         let same : s ≡ r = some_same s r (rw is at found) in
-        let not_itself : (has_parent p s && is_behind (Some s.inc) s.inc) ≡ false = false_and (has_parent p s) (nat_lt s.inc s.inc) (le-ltb s.inc s.inc (omega arith)) in
+        let not_itself : (has_parent p s && is_behind (Some s.inc) s.inc) ≡ false = and_right (has_parent p s) (nat_lt s.inc s.inc) (le-ltb s.inc s.inc (omega arith)) in
         let rest : kids ss p after ≡ kids ss p (Some s.inc) =
         same_rows (λ t. has_parent p t && is_behind after t.inc) (λ t. has_parent p t && is_behind (Some s.inc) t.inc) s.inc
         (λ t low. true_and (has_parent p t) (is_behind after t.inc) (is_later after s t is low) ∙ sym (true_and (has_parent p t) (nat_lt s.inc t.inc) (lt-ltb s.inc t.inc low)))
@@ -88,7 +83,7 @@ module _ (p : ℕ) where
     by false is more =
         let later : find (λ s. has_parent p s && is_behind after s.inc) ss ≡ Some r = rw is at found in
         let low : s.inc < r.inc = increasing.0.1 r.inc (rw (find-lives (λ s. has_parent p s && is_behind after s.inc) ss next r increasing.1 later) refl) in
-        let before : (has_parent p s && is_behind (Some r.inc) s.inc) ≡ false = false_and (has_parent p s) (nat_lt r.inc s.inc) (le-ltb r.inc s.inc (omega arith)) in
+        let before : (has_parent p s && is_behind (Some r.inc) s.inc) ≡ false = and_right (has_parent p s) (nat_lt r.inc s.inc) (le-ltb r.inc s.inc (omega arith)) in
         rw (is, before) (more later)
 
   pub kids_none : (rows : List Row) (after : Option ℕ) → find (λ s. has_parent p s && is_behind after s.inc) rows ≡ None → kids rows p after ≡ []

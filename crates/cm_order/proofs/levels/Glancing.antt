@@ -1,9 +1,11 @@
 -- What a quick look at a level finds.
 use Rattle.std.proofs.Common.{◌≡◌, ◌≢◌, ℕ, ◌<◌, List, [], ◌∷◌, Bool, true, false, not, ◌&&◌, Option, Some, None, IsTrue, is_none, true≢false, refl, sym, ◌∙◌, ap, subst, inl, inr, ◌⊎◌, arith}
 use Rattle.std.specs.Option.{option_map_or}
+use Rattle.std.specs.Cmp.{first_so, second_so}
+use Rattle.std.proofs.lemmas.Bool.{not-true}
 use Rattle.cm_decl.specs.Reach.{DependencyPath}
 use Rattle.cm_decl.specs.RealmGraph.{Depends}
-use Rattle.cm_decl.proofs.Sameness.{and_first, and_second, never}
+use Rattle.cm_decl.proofs.Sameness.{never}
 use Rattle.cm_world.specs.declared.row.Row.{Row}
 use Rattle.cm_world.specs.Rows.{row_of, is_subtree_shut}
 use Rattle.cm_world.specs.RowsInside.{child_behind}
@@ -17,7 +19,7 @@ use Rattle.cm_order.specs.Search.{IsHere}
 use Rattle.cm_order.specs.declared.dependents.Dependents.{Dependents}
 use Rattle.cm_order.specs.Glances.{is_client, IsCleared, KnowsDependents, IsFreeKid, AreKidsShut}
 use Rattle.cm_order.specs.Plans.{AreShutSoFar}
-use Rattle.cm_order.proofs.trees.Trees.{kid_higher, below_kid, shut_each, shut_all, flip_not, true_not_false}
+use Rattle.cm_order.proofs.trees.Trees.{kid_higher, below_kid, shut_each, shut_all, true_not_false}
 use Rattle.cm_order.proofs.levels.Kids.{other_kids, no_kids}
 use Rattle.cm_order.proofs.levels.Gathering.{own_shut, kid_shut}
 use Rattle.cm_order.proofs.searches.Turns.{under}
@@ -68,10 +70,10 @@ module _ (rows : List Row) (next : ℕ) (sound : IsSound rows next) (p : ℕ) wh
     new = refl;
     row = r;
     lives = e;
-    fits = and_second (not r.shut) (is_none r.pending) idle;
+    fits = second_so (not r.shut) (is_none r.pending) idle;
     leads = record {
       free = λ z way. free_by z kids way;
-      unshut = own_shut rows p ∙ ap (λ o. option_map_or (λ s. s.shut) o false) e ∙ flip_not r.shut (and_first (not r.shut) (is_none r.pending) idle);
+      unshut = own_shut rows p ∙ ap (λ o. option_map_or (λ s. s.shut) o false) e ∙ not-true r.shut (first_so (not r.shut) (is_none r.pending) idle);
     };
   }
 

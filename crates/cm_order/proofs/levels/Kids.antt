@@ -1,8 +1,7 @@
 -- The children of a row, one behind another.
 use Rattle.std.proofs.Common.{◌≡◌, ℕ, ◌<◌, ◌≤◌, List, [], ◌∷◌, Bool, true, false, cond, ◌&&◌, ◌==◌, nat_lt, true≢false, Option, Some, None, IsTrue, find, option_map, refl, sym, ◌∙◌, ap, subst, inl, inr, ◌⊎◌, arith}
-use Rattle.std.specs.Cmp.{unsigned_Decides}
+use Rattle.std.specs.Cmp.{unsigned_Decides, first_so, second_so}
 use Rattle.std.proofs.lemmas.Bool.{lt-ltb}
-use Rattle.cm_decl.proofs.Sameness.{and_first, and_second}
 use Rattle.cm_world.specs.declared.row.Row.{Row}
 use Rattle.cm_world.specs.Rows.{row_of, has_parent}
 use Rattle.cm_world.specs.RowsInside.{is_behind, child_behind}
@@ -77,9 +76,9 @@ module _ (rows : List Row) (next : ℕ) (orderly : IsOrderly rows next) where
         record {
           row = r;
           lives = subst (λ i. row_of rows i ≡ Some r) own (find-lives (λ r. has_parent p r && is_behind after r.inc) rows next r orderly.increasing found);
-          parent = some_eq r.parent p (and_first (has_parent p r) (is_behind after r.inc) passes);
+          parent = some_eq r.parent p (first_so (has_parent p r) (is_behind after r.inc) passes);
         },
-        subst (λ i. IsTrue (is_behind after i)) own (and_second (has_parent p r) (is_behind after r.inc) passes),
+        subst (λ i. IsTrue (is_behind after i)) own (second_so (has_parent p r) (is_behind after r.inc) passes),
       )
 
   -- a child that is found is one, and stands behind

@@ -3,7 +3,7 @@ use Rattle.std.proofs.Common.{◌≡◌, ℕ, ◌<◌, List, [], ◌∷◌, ◌+
 use Rattle.std.specs.List.{list_any}
 use Rattle.std.specs.Str.{bytes_eq}
 use Rattle.std.specs.Option.{option_map_or, option_eq}
-use Rattle.std.specs.Cmp.{unsigned_Decides}
+use Rattle.std.specs.Cmp.{unsigned_Decides, first_so, second_so}
 use Rattle.cm_names.specs.declared.child.ChildName.{ChildName}
 use Rattle.cm_decl.specs.declared.decl.Decl.{Decl}
 use Rattle.cm_decl.specs.declared.rows.Give.{Give}
@@ -16,7 +16,7 @@ use Rattle.cm_decl.specs.Reach.{DependencyPath, Reaches, NoCycle}
 use Rattle.cm_decl.specs.RealmGraph.{Directly, Depends}
 use Rattle.cm_decl.specs.Graph.{is_node, is_from_node, is_strong, sources_of, child_sources, StrongOn}
 use Rattle.cm_decl.specs.GraphInside.{realm, DependsOn, WouldDirectly, WouldDepend}
-use Rattle.cm_decl.proofs.Sameness.{and_first, and_second, or_split, never, same_child_exact}
+use Rattle.cm_decl.proofs.Sameness.{or_split, never, same_child_exact}
 use Rattle.cm_decl.proofs.orders.Orders.{edge_nodes}
 use Rattle.cm_deps.proofs.loops.Ways.{last_step}
 use Rattle.cm_world.specs.declared.row.Row.{Row}
@@ -54,7 +54,7 @@ kid_by rows p x (Some r) lives h = record { row = r; lives = lives; parent = som
 -- a node of the level is p itself, or a child row
 pub node_kid : (rows : List Row) (p x : ℕ) → IsTrue (is_level_node rows p x) → (x ≡ p) ⊎ IsKid rows p x
 node_kid rows p x node = elim (or_split (x == p && is_live rows p) (is_child_row rows p x) node) [
-  | inl own ↦ inl ((unsigned_Decides x p).0 (and_first (x == p) (is_live rows p) own))
+  | inl own ↦ inl ((unsigned_Decides x p).0 (first_so (x == p) (is_live rows p) own))
   | inr kid ↦ inr (kid_by rows p x (row_of rows x) refl kid)
 ]
 
@@ -113,8 +113,8 @@ module _ (rows : List Row) (next : ℕ) (sound : IsSound rows next) (p : ℕ) (d
   edge_rows : (x y : ℕ) (n m : Node) → IsNamed rows p x n → IsNamed rows p y m → StrongOn d (dynamic_children rows p) n m → LevelStrong rows p x y
   edge_rows x y n m first second strong =
       let named : IsTrue (list_any (is_from_node m) (sources_of d (dynamic_children rows p) n)) =
-      and_first (list_any (is_from_node m) (sources_of d (dynamic_children rows p) n)) (is_node d (dynamic_children rows p) n)
-      (and_first (list_any (is_from_node m) (sources_of d (dynamic_children rows p) n) && is_node d (dynamic_children rows p) n) (is_node d (dynamic_children rows p) m) strong) in
+      first_so (list_any (is_from_node m) (sources_of d (dynamic_children rows p) n)) (is_node d (dynamic_children rows p) n)
+      (first_so (list_any (is_from_node m) (sources_of d (dynamic_children rows p) n) && is_node d (dynamic_children rows p) n) (is_node d (dynamic_children rows p) m) strong) in
       let from : IsTrue (list_any (is_from_row rows p y) (level_sources rows p x)) =
       ap (list_any (is_from_row rows p y)) (same_sources x n first) ∙ any_same (is_from_row rows p y) (is_from_node m) (sources_of d (dynamic_children rows p) n) (from_row y m second) ∙ named in
       and_pair (list_any (is_from_row rows p y) (level_sources rows p x) && is_level_node rows p x) (is_level_node rows p y)
@@ -267,11 +267,11 @@ module _ (rows : List Row) (next : ℕ) (sound : IsSound rows next) (p : ℕ) (d
 
   first_would : (x : ℕ) (c : ChildName) (coll : List ℕ) (doomed : IsDoomedKid rows p x) → doomed.kid.row.name ≡ Some c → c.coll ≡ Some coll → (q : Node) → WouldDirectly d (dynamic_children rows p) coll doomed.kid.row.gives q → (w : ℕ) × IsNamed rows p w q × LevelOn rows p x w
   first_would x c coll doomed name inside q (inl both) =
-      let node : IsTrue (is_node d (dynamic_children rows p) q) = and_second (list_any (is_from_node q) (child_sources d (record { coll = Some coll; name = [] }) doomed.kid.row.gives)) (is_node d (dynamic_children rows p) q) both in
+      let node : IsTrue (is_node d (dynamic_children rows p) q) = second_so (list_any (is_from_node q) (child_sources d (record { coll = Some coll; name = [] }) doomed.kid.row.gives)) (is_node d (dynamic_children rows p) q) both in
       let row : (w : ℕ) × IsNamed rows p w q = node_row rows next sound p d found q node in
       let from : IsTrue (list_any (is_from_row rows p row.0) (level_sources rows p x)) =
       ap (list_any (is_from_row rows p row.0)) (kid_sources x c doomed.kid name) ∙ any_same (is_from_row rows p row.0) (is_from_node q) (child_sources d c doomed.kid.row.gives) (from_row row.0 q row.1) ∙ ap (list_any (is_from_node q)) (further_sources c coll doomed.kid.row.gives inside)
-      ∙ and_first (list_any (is_from_node q) (child_sources d (record { coll = Some coll; name = [] }) doomed.kid.row.gives)) (is_node d (dynamic_children rows p) q) both in (
+      ∙ first_so (list_any (is_from_node q) (child_sources d (record { coll = Some coll; name = [] }) doomed.kid.row.gives)) (is_node d (dynamic_children rows p) q) both in (
         row.0,
         row.1,
         inl (and_pair (list_any (is_from_row rows p row.0) (level_sources rows p x) && is_level_node rows p x) (is_level_node rows p row.0)

@@ -2,8 +2,9 @@
 use Rattle.std.proofs.Common.{◌≡◌, ◌≢◌, ℕ, ◌<◌, List, [], ◌∷◌, ◌++◌, Bool, true, false, cond, not, ◌&&◌, ◌||◌, ◌==◌, true≢false, Option, Some, None, IsTrue, IsSome, find, filter, flat_map, map, is_some, is_none, count_by, option_map, option_and_then, refl, sym, ◌∙◌, ap, subst, inl, inr, ◌⊎◌, arith}
 use Rattle.std.specs.List.{list_any}
 use Rattle.std.specs.Option.{option_map_or, option_eq}
-use Rattle.std.specs.Cmp.{unsigned_Decides}
+use Rattle.std.specs.Cmp.{unsigned_Decides, first_so, second_so}
 use Rattle.std.proofs.lemmas.List.Folds.{list_any-append}
+use Rattle.std.proofs.lemmas.Bool.{not-true}
 use Rattle.cm_names.specs.declared.child.ChildName.{ChildName}
 use Rattle.cm_decl.specs.declared.decl.Decl.{Decl}
 use Rattle.cm_decl.specs.declared.rows.Child.{Child as DeclaredChild}
@@ -13,7 +14,7 @@ use Rattle.cm_decl.specs.declared.node.Node.{Node}
 use Rattle.cm_decl.specs.declared.node.Node.TheVariants.{Own, Child}
 use Rattle.cm_decl.specs.Same.{same_child, same_node}
 use Rattle.cm_decl.specs.Graph.{is_node, static_name, static_node, dynamic_node, gives_of}
-use Rattle.cm_decl.proofs.Sameness.{and_first, and_second, or_split, never, same_node-refl, same_child_exact}
+use Rattle.cm_decl.proofs.Sameness.{or_split, never, same_node-refl, same_child_exact}
 use Rattle.cm_world.specs.declared.row.Row.{Row}
 use Rattle.cm_world.specs.Rows.{row_of, decl_of, has_parent, has_name, child_of}
 use Rattle.cm_world.specs.RowsInside.{is_behind}
@@ -22,7 +23,7 @@ use Rattle.cm_world.proofs.trees.Finding.{none_some, some_same, find-passes}
 use Rattle.cm_world.proofs.trees.Walks.{find-lives}
 use Rattle.cm_order.specs.Kids.{IsKid}
 use Rattle.cm_order.specs.Names.{child_node, node_in, in_collection, dynamic_child, dynamic_children}
-use Rattle.cm_order.proofs.trees.Trees.{kid_higher, some_eq, eq_some, or_left, or_right, and_pair, not_true, not_flip, flip_not}
+use Rattle.cm_order.proofs.trees.Trees.{kid_higher, some_eq, eq_some, or_left, or_right, and_pair, not_true, not_flip}
 use Rattle.cm_order.proofs.levels.Kids.{none_found}
 use Rattle.cm_order.proofs.names.Listing.{any_some, any_map, any_flat, any_row, row_any, any_counts, counts_any, flat_flat, only_row}
 
@@ -101,9 +102,9 @@ module _ (rows : List Row) (next : ℕ) (orderly : IsOrderly rows next) (p : ℕ
 
   passes_name : (c : ChildName) (r : Row) → IsTrue (has_parent p r && has_name c r && not r.doomed) → (r.parent ≡ Some p) × (r.name ≡ Some c) × (r.doomed ≡ false)
   passes_name c r h = (
-    some_eq r.parent p (and_first (has_parent p r) (has_name c r) (and_first (has_parent p r && has_name c r) (not r.doomed) h)),
-    some_name r.name c (and_second (has_parent p r) (has_name c r) (and_first (has_parent p r && has_name c r) (not r.doomed) h)),
-    flip_not r.doomed (and_second (has_parent p r && has_name c r) (not r.doomed) h),
+    some_eq r.parent p (first_so (has_parent p r) (has_name c r) (first_so (has_parent p r && has_name c r) (not r.doomed) h)),
+    some_name r.name c (second_so (has_parent p r) (has_name c r) (first_so (has_parent p r && has_name c r) (not r.doomed) h)),
+    not-true r.doomed (second_so (has_parent p r && has_name c r) (not r.doomed) h),
   )
 
   pub kid_of_row : (c : ChildName) (r : Row) → row_of rows r.inc ≡ Some r → r.parent ≡ Some p → r.name ≡ Some c → r.doomed ≡ false → IsNamedKid rows p r.inc c
@@ -192,8 +193,8 @@ module _ (rows : List Row) (next : ℕ) (sound : IsSound rows next) (p : ℕ) (d
       let many : 0 < count_by (λ k. same_child (static_name k.name) (static_name one.0.name)) d.children = any_counts (λ k. same_child (static_name k.name) (static_name one.0.name)) d.children again in
       let row : (r : Row) × (row_of rows r.inc ≡ Some r) × IsTrue (has_parent p r && has_name (static_name one.0.name) r) =
       any_row (λ r. has_parent p r && has_name (static_name one.0.name) r) rows next sound.orderly.increasing (counts_any (λ r. has_parent p r && has_name (static_name one.0.name) r) rows (subst (λ n. 0 < n) (sym (static.one_each one.0.name)) many)) in
-      let parent : IsTrue (has_parent p row.0) = and_first (has_parent p row.0) (has_name (static_name one.0.name) row.0) row.2 in
-      let name : row.0.name ≡ Some (static_name one.0.name) = some_name row.0.name (static_name one.0.name) (and_second (has_parent p row.0) (has_name (static_name one.0.name) row.0) row.2) in
+      let parent : IsTrue (has_parent p row.0) = first_so (has_parent p row.0) (has_name (static_name one.0.name) row.0) row.2 in
+      let name : row.0.name ≡ Some (static_name one.0.name) = some_name row.0.name (static_name one.0.name) (second_so (has_parent p row.0) (has_name (static_name one.0.name) row.0) row.2) in
       let kept : (row.0.doomed ≡ false) × (row.0.gives ≡ []) = static.kept row.0.inc row.0 row.1 (and_pair (has_parent p row.0) (option_map_or (λ c. is_none c.coll) row.0.name false) parent (subst (λ o. IsTrue (option_map_or (λ c. is_none c.coll) o false)) (sym name) refl)) in
       (row.0.inc, kid_of_row rows next sound.orderly p c row.0 row.1 (some_eq row.0.parent p parent) (name ∙ ap Some same) kept.0)
 
@@ -221,9 +222,9 @@ module _ (rows : List Row) (next : ℕ) (sound : IsSound rows next) (p : ℕ) (d
   dynamic_row c listed =
       let row : (r : Row) × (row_of rows r.inc ≡ Some r) × IsTrue ((has_parent p r && is_behind None r.inc) && list_any (λ k. same_child k.name c) (dynamic_child r)) =
       any_row (λ r. (has_parent p r && is_behind None r.inc) && list_any (λ k. same_child k.name c) (dynamic_child r)) rows next sound.orderly.increasing (sym (any_flat (λ k. same_child k.name c) dynamic_child (λ r. has_parent p r && is_behind None r.inc) rows) ∙ listed) in
-      let test : IsTrue (has_parent p row.0 && is_behind None row.0.inc) = and_first (has_parent p row.0 && is_behind None row.0.inc) (list_any (λ k. same_child k.name c) (dynamic_child row.0)) row.2 in
-      let is : (row.0.doomed ≡ false) × (row.0.name ≡ Some c) = listed_by c row.0 row.0.doomed row.0.name refl refl (and_second (has_parent p row.0 && is_behind None row.0.inc) (list_any (λ k. same_child k.name c) (dynamic_child row.0)) row.2) in
-      (row.0.inc, kid_of_row rows next sound.orderly p c row.0 row.1 (some_eq row.0.parent p (and_first (has_parent p row.0) (is_behind None row.0.inc) test)) is.1 is.0)
+      let test : IsTrue (has_parent p row.0 && is_behind None row.0.inc) = first_so (has_parent p row.0 && is_behind None row.0.inc) (list_any (λ k. same_child k.name c) (dynamic_child row.0)) row.2 in
+      let is : (row.0.doomed ≡ false) × (row.0.name ≡ Some c) = listed_by c row.0 row.0.doomed row.0.name refl refl (second_so (has_parent p row.0 && is_behind None row.0.inc) (list_any (λ k. same_child k.name c) (dynamic_child row.0)) row.2) in
+      (row.0.inc, kid_of_row rows next sound.orderly p c row.0 row.1 (some_eq row.0.parent p (first_so (has_parent p row.0) (is_behind None row.0.inc) test)) is.1 is.0)
 
   -- what a child row that isn't doomed is listed as
   listed_as : (r : Row) (c : ChildName) → r.doomed ≡ false → r.name ≡ Some c → dynamic_child r ≡ in_collection c r.gives
@@ -284,7 +285,7 @@ module _ (rows : List Row) (next : ℕ) (sound : IsSound rows next) (p : ℕ) (d
     by false e = refl
     by true e =
         others_give c s s.doomed s.name refl refl (λ b there name. not_true (same_child b c) (λ same.
-        let parent : s.parent ≡ Some p = some_eq s.parent p (and_first (has_parent p s) (is_behind None s.inc) e) in
+        let parent : s.parent ≡ Some p = some_eq s.parent p (first_so (has_parent p s) (is_behind None s.inc) e) in
         apart (sound.orderly.one_name j x s kid.kid.row lives kid.kid.lives there kid.there (parent ∙ sym kid.kid.parent) (name ∙ ap Some (same_child_exact b c same) ∙ sym kid.name))))
 
   own_by : (x : ℕ) (c : ChildName) (kid : IsNamedKid rows p x c) (o : Option (List ℕ)) → c.coll ≡ o → flat_map (λ k. k.gives) (filter (λ k. same_child k.name c) (in_collection c kid.kid.row.gives)) ≡ kid.kid.row.gives

@@ -2,7 +2,7 @@
 use Rattle.std.proofs.Common.{◌≡◌, ◌≢◌, ℕ, ◌+◌, ◌<◌, ◌≤◌, List, [], ◌∷◌, ◌++◌, Bool, true, false, ◌&&◌, Option, Some, None, IsTrue, filter, map, get_or, take, length, option_map, refl, sym, ◌∙◌, ap, subst, inl, inr, ◌⊎◌}
 use Rattle.std.specs.List.{list_any}
 use Rattle.std.specs.BTreeMap.{BTreeMap}
-use Rattle.std.specs.Cmp.{unsigned_Decides}
+use Rattle.std.specs.Cmp.{unsigned_Decides, first_so, second_so}
 use Rattle.std.specs.Str.{bytes_eq}
 use Rattle.std.proofs.lemmas.List.{take_all}
 use Rattle.std.proofs.lemmas.List.Folds.{list_any_more, list_any-append}
@@ -12,7 +12,7 @@ use Rattle.cm_decl.specs.declared.origin.Origin.{Origin}
 use Rattle.cm_decl.specs.declared.rows.Give.{Give}
 use Rattle.cm_decl.specs.declared.rows.Offer.{Offer}
 use Rattle.cm_decl.specs.Graph.{is_strong, is_from_child, target_of, own_sources, child_sources, offers_to}
-use Rattle.cm_decl.proofs.Sameness.{and_first, and_second, or_split, never}
+use Rattle.cm_decl.proofs.Sameness.{or_split, never}
 use Rattle.cm_world.specs.declared.row.Row.{Row}
 use Rattle.cm_world.specs.Rows.{row_of, decl_of}
 use Rattle.cm_world.specs.RowsInside.{child_behind, is_behind}
@@ -167,12 +167,12 @@ module _ (rows : List Row) (next : ℕ) (sound : IsSound rows next) (p : ℕ) wh
       let from : IsTrue (list_any (is_from_row rows p x) (own_sources d)) =
       sym (ap (list_any (is_from_row rows p x)) (own_all d found)) ∙ edge_source rows p p x strong in
       usages x other (any_from (is_from_row rows p x) (λ u. u.from) (λ u. is_strong u.dependency && is_from_child u.from) (is_used_from rows p x)
-      (λ u passes comes. and_pair (is_strong u.dependency) (is_from_row rows p x u.from) (and_first (is_strong u.dependency) (is_from_child u.from) passes) comes) d.uses from)
+      (λ u passes comes. and_pair (is_strong u.dependency) (is_from_row rows p x u.from) (first_so (is_strong u.dependency) (is_from_child u.from) passes) comes) d.uses from)
 
   edge_start : (w y : ℕ) → LevelStrong rows p w y → IsTrue (is_level_node rows p w)
   edge_start w y strong =
-      and_second (list_any (is_from_row rows p y) (level_sources rows p w)) (is_level_node rows p w)
-      (and_first (list_any (is_from_row rows p y) (level_sources rows p w) && is_level_node rows p w) (is_level_node rows p y) strong)
+      second_so (list_any (is_from_row rows p y) (level_sources rows p w)) (is_level_node rows p w)
+      (first_so (list_any (is_from_row rows p y) (level_sources rows p w) && is_level_node rows p w) (is_level_node rows p y) strong)
 
   -- each node of the level was put
   pub all_put : (d : Decl) (offered : BTreeMap (List ℕ) (List ℕ)) (a clients : BTreeMap ℕ (List ℕ)) → Some d ≡ decl_of rows p → HasOffered rows p d.offers offered → HasSources p (is_used_from rows p) d.uses (λ x. is_client a x p) → ((c : ℕ) (kid : IsKid rows p c) → IsPut rows p offered clients c kid.row) → ClientsGrow a clients → (w : ℕ) → HasNext rows p clients w

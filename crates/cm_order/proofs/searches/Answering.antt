@@ -1,5 +1,6 @@
 -- What a pick answers.
 use Rattle.std.proofs.Common.{◌≡◌, ℕ, List, false, not, Option, Some, None, IsTrue, is_none, is_some, option_map, option_and_then, refl, sym, ◌∙◌, ap, subst, inl, inr}
+use Rattle.std.proofs.lemmas.Bool.{not-true}
 use Rattle.cm_decl.proofs.Sameness.{or_split}
 use Rattle.cm_world.specs.declared.row.Row.{Row}
 use Rattle.cm_world.specs.declared.action.ActKind.{ActKind}
@@ -11,7 +12,7 @@ use Rattle.cm_world.proofs.trees.Finding.{none_some, some_same}
 use Rattle.cm_order.specs.declared.search.SearchGoal.TheVariants.{Idle, Pending}
 use Rattle.cm_order.specs.Search.{IsFound, NoneIs}
 use Rattle.cm_order.specs.Picking.{PickWaitsFor}
-use Rattle.cm_order.proofs.trees.Trees.{climb, below_lives, below_cases, below_trans, shut_each, shut_all, flip_not, true_not_false}
+use Rattle.cm_order.proofs.trees.Trees.{climb, below_lives, below_cases, below_trans, shut_each, shut_all, true_not_false}
 use Rattle.cm_order.proofs.trees.Tops.{IsTop, top_of, top_below, top_lives, no_top}
 use Rattle.cm_order.proofs.trees.Ending.{CanUnder, shut_or_can}
 
@@ -35,7 +36,7 @@ module _ (rows : List Row) (next : ℕ) (sound : IsSound rows next) where
   -- a target that lives and has no closing row above it is none
   pub none_left : (t : ℕ) → IsTrue (may_close rows t) → outermost rows t ≡ None → IsTrue (is_subtree_shut rows t)
   none_left t may none = elim (or_split (not (is_live rows t)) (is_closing rows t) may) [
-    | inl gone ↦ gone_shut t (flip_not (is_live rows t) gone)
+    | inl gone ↦ gone_shut t (not-true (is_live rows t) gone)
     | inr closing ↦ true_not_false (is_closing rows t) closing (no_top rows next sound.orderly t none)
   ]
 

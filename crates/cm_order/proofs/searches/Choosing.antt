@@ -1,8 +1,10 @@
 -- Which row that is given may be picked.
-use Rattle.std.proofs.Common.{◌≡◌, ◌≢◌, ℕ, List, Bool, true, false, not, ◌&&◌, Option, Some, None, Result, Ok, Err, IsTrue, is_none, is_some, option_map, true≢false, option_and_then, refl, sym, ◌∙◌, ap, subst, inl, inr}
-use Rattle.std.specs.Prelude.{◌↔◌, IfOk}
+use Rattle.std.proofs.Common.{◌≡◌, ◌≢◌, ℕ, List, Bool, true, false, not, ◌&&◌, Option, Some, None, IsTrue, is_none, is_some, option_map, true≢false, option_and_then, refl, sym, ◌∙◌, ap, subst, inl, inr}
+use Rattle.std.specs.Prelude.{◌↔◌}
 use Rattle.std.specs.Option.{option_map_or}
-use Rattle.cm_decl.proofs.Sameness.{and_first, and_second, never}
+use Rattle.std.specs.Cmp.{first_so, second_so}
+use Rattle.std.proofs.lemmas.Bool.{not-true}
+use Rattle.cm_decl.proofs.Sameness.{never}
 use Rattle.cm_world.specs.declared.row.Row.{Row}
 use Rattle.cm_world.specs.declared.action.ActKind.{ActKind}
 use Rattle.cm_world.specs.declared.view.Facts.{Facts}
@@ -16,16 +18,11 @@ use Rattle.cm_order.specs.Kids.{IsKid}
 use Rattle.cm_order.specs.Search.{IsFreeAt}
 use Rattle.cm_order.specs.Picking.{MayBePicked}
 use Rattle.cm_order.specs.Ways.{is_idle, IsFreeUpTo}
-use Rattle.cm_order.proofs.trees.Trees.{climb, below_self, below_cases, below_lives, below_trans, kid_below, flip_not}
+use Rattle.cm_order.proofs.trees.Trees.{climb, below_self, below_cases, below_lives, below_trans, kid_below}
 use Rattle.cm_order.proofs.trees.Tops.{top_of, top_below, no_top, closing_below}
 use Rattle.cm_order.proofs.trees.Paths.{path, path_top}
 use Rattle.cm_order.proofs.searches.Searching.{row_unshut, kid_leads}
 use Rattle.cm_order.specs.declared.search.SearchGoal.TheVariants.{Idle}
-
--- what is promised of an answer is promised in other words
-pub if_ok : {A E : Type 0} (P Q : A → Type 0) (r : Result A E) → ((a : A) → P a → Q a) → IfOk r P → IfOk r Q
-if_ok P Q (Ok a) f h = f a h
-if_ok P Q (Err e) f h = tt
 
 -- where something is out of the question, false says so
 pub never_so : {P : Type 0} → (P → ⊥) → IsTrue false ↔ P
@@ -48,8 +45,8 @@ idle_by rows i None e h = never h
 idle_by rows i (Some r) e h = record {
   row = r;
   lives = e;
-  unshut = flip_not r.shut (and_first (not r.shut) (is_none r.pending) h);
-  pending = none_by r.pending (and_second (not r.shut) (is_none r.pending) h);
+  unshut = not-true r.shut (first_so (not r.shut) (is_none r.pending) h);
+  pending = none_by r.pending (second_so (not r.shut) (is_none r.pending) h);
 }
 
 pub idle_row : (rows : List Row) (i : ℕ) → IsTrue (is_idle rows i) → IsIdleRow rows i
@@ -214,7 +211,7 @@ module _ (rows : List Row) (next : ℕ) (orderly : IsOrderly rows next) where
   pub leads_free : (p c : ℕ) → IsKid rows p c → option_map_or (λ r. not r.shut) (row_of rows c) false ≡ true → IsFree rows p c → IsFreeAt rows p c
   leads_free p c kid unshut free =
       kid_leads rows next orderly Idle p c c kid.row kid (below_self rows next orderly c kid.row kid.lives) kid.lives
-      (flip_not kid.row.shut (sym (ap (λ o. option_map_or (λ r. not r.shut) o false) kid.lives) ∙ unshut)) free
+      (not-true kid.row.shut (sym (ap (λ o. option_map_or (λ r. not r.shut) o false) kid.lives) ∙ unshut)) free
 
   -- each row on the way leads, where all levels are free
   pub next_leads : (top i here p : ℕ) → IsTrue (is_idle rows i) → IsWayUp rows top i here → IsFurther rows top here p → IsFreeUpTo rows top i → IsFreeAt rows p here

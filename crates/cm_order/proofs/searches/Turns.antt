@@ -1,6 +1,7 @@
 -- A search down the tree, place by place.
 use Rattle.std.proofs.Common.{◌≡◌, ℕ, List, [], ◌∷◌, ◌++◌, Bool, true, false, not, Option, Some, None, IsTrue, option_and_then, refl, sym, ◌∙◌, ap, subst, inl, inr}
 use Rattle.std.specs.Option.{option_map_or}
+use Rattle.std.proofs.lemmas.Bool.{not-false}
 use Rattle.cm_decl.proofs.Sameness.{never}
 use Rattle.cm_world.specs.declared.row.Row.{Row}
 use Rattle.cm_world.specs.Rows.{row_of, is_below, is_subtree_shut}
@@ -75,12 +76,9 @@ abbrev pub is_unshut : List Row → Option ℕ → Bool
 is_unshut rows o = option_map_or (λ r. not r.shut) (option_and_then (row_of rows) o) false
 
 module _ (rows : List Row) (next : ℕ) (orderly : IsOrderly rows next) where
-  shut_by : (b : Bool) → not b ≡ false → IsTrue b
-  shut_by true e = refl
-  shut_by false e = sym e
 
   row_shut : (i : ℕ) (r : Row) → row_of rows i ≡ Some r → option_map_or (λ r. not r.shut) (row_of rows i) false ≡ false → IsTrue r.shut
-  row_shut i r lives shut = shut_by r.shut (sym (ap (λ o. option_map_or (λ r. not r.shut) o false) lives) ∙ shut)
+  row_shut i r lives shut = not-false r.shut (sym (ap (λ o. option_map_or (λ r. not r.shut) o false) lives) ∙ shut)
 
   -- all is shut where the row is, and all below it
   pub shut_whole : (i : ℕ) → option_map_or (λ r. not r.shut) (row_of rows i) false ≡ false → KidsShut rows (under i) → IsTrue (is_subtree_shut rows i)

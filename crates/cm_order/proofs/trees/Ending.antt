@@ -2,12 +2,11 @@
 use Rattle.std.proofs.Common.{◌≡◌, ◌≢◌, ℕ, zero, suc, ◌+◌, ◌-◌, ◌<◌, List, [], ◌∷◌, Bool, true, false, ◌&&◌, ◌==◌, true≢false, Option, Some, None, IsTrue, is_some, refl, sym, ◌∙◌, ap, subst, inl, inr, ◌⊎◌, arith}
 use Rattle.std.specs.List.{list_any}
 use Rattle.std.specs.Option.{option_map_or}
-use Rattle.std.specs.Cmp.{unsigned_Decides}
+use Rattle.std.specs.Cmp.{unsigned_Decides, second_so}
 use Rattle.cm_decl.specs.Reach.{DependencyPath, Reaches, NoCycle}
 use Rattle.cm_decl.specs.RealmGraph.{IsImplied, Depends}
 use Rattle.cm_decl.proofs.Sameness.{never}
 use Rattle.cm_decl.proofs.cycles.Reaching.{Reaches-trans}
-use Rattle.cm_decl.proofs.Sameness.{and_second}
 use Rattle.cm_world.specs.declared.row.Row.{Row}
 use Rattle.cm_world.specs.Rows.{row_of, has_parent, is_live, is_below, is_closing, is_subtree_shut}
 use Rattle.cm_world.specs.Level.{is_child_row, is_level_node, level_sources, is_from_row, level_edge, level, LevelStrong}
@@ -69,7 +68,7 @@ module _ (rows : List Row) (next : ℕ) (sound : IsSound rows next) where
     by false = inr (λ h. never h)
 
   edge_end : (p x y : ℕ) → LevelStrong rows p x y → IsTrue (is_level_node rows p y)
-  edge_end p x y strong = and_second (list_any (is_from_row rows p y) (level_sources rows p x) && is_level_node rows p x) (is_level_node rows p y) strong
+  edge_end p x y strong = second_so (list_any (is_from_row rows p y) (level_sources rows p x) && is_level_node rows p x) (is_level_node rows p y) strong
 
   strong_there : (p x y : ℕ) → LevelStrong rows p x y → (r : Row) × (row_of rows y ≡ Some r)
   strong_there p x y strong = node_row rows p y (edge_end p x y strong)

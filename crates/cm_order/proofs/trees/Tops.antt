@@ -1,8 +1,9 @@
 -- The outermost closing row above another.
-use Rattle.std.proofs.Common.{◌≡◌, ℕ, zero, suc, List, [], ◌∷◌, Bool, true, false, cond, ◌||◌, true≢false, Option, Some, None, IsTrue, find, length, reverse, option_and_then, refl, sym, ◌∙◌, ap, subst, inl, inr}
+use Rattle.std.proofs.Common.{◌≡◌, ℕ, zero, suc, List, [], ◌∷◌, Bool, true, false, cond, ◌||◌, Option, Some, None, IsTrue, find, length, reverse, option_and_then, refl, sym, ◌∙◌, ap, subst, inl, inr}
 use Rattle.std.specs.Option.{option_map_or, option_or}
 use Rattle.std.proofs.lemmas.List.{reverse-append}
 use Rattle.std.proofs.lemmas.List.Folds.{find-append}
+use Rattle.std.proofs.lemmas.Bool.{or_from, or_parts}
 use Rattle.cm_world.specs.declared.row.Row.{Row}
 use Rattle.cm_world.specs.Rows.{row_of, at_or_above, is_below, is_closing, has_closing, line_from}
 use Rattle.cm_world.specs.Sound.{IsOrderly}
@@ -27,14 +28,10 @@ top_more rows i line =
 
 -- ---- where no row on the way up is closing
 
-neither : (a b : Bool) → (a || b) ≡ false → (a ≡ false) × (b ≡ false)
-neither true b e = absurd (true≢false e)
-neither false b e = (refl, e)
-
 missing_row : (n : ℕ) (rows : List Row) (i : ℕ) (o : Option Row) → row_of rows i ≡ o → ((u : Option ℕ) → at_or_above n (λ r. r.closing) rows u ≡ false → find (λ j. has_closing rows j) (reverse (line_from n rows u)) ≡ None) → elim o as (λ _. Bool) [ None ↦ false | Some r ↦ r.closing || at_or_above n (λ q. q.closing) rows r.parent ] ≡ false → find (λ j. has_closing rows j) (reverse (elim o as (λ _. List ℕ) [ None ↦ [] | Some r ↦ i ∷ line_from n rows r.parent ])) ≡ None
 missing_row n rows i None here later off = refl
 missing_row n rows i (Some r) here later off =
-    let both = neither r.closing (at_or_above n (λ q. q.closing) rows r.parent) off in
+    let both = or_parts r.closing (at_or_above n (λ q. q.closing) rows r.parent) off in
     let own : has_closing rows i ≡ false = ap (λ o. option_map_or (λ q. q.closing) o false) here ∙ both.0 in
     top_more rows i (line_from n rows r.parent)
     ∙ ap (λ o. option_or o (cond (has_closing rows i) (Some i) None)) (later r.parent both.1)
@@ -143,10 +140,6 @@ module _ (rows : List Row) (next : ℕ) (orderly : IsOrderly rows next) where
   unclosing true i e = absurd (none_some i (sym e))
   unclosing false i e = refl
 
-  both_false : (p q : Bool) → p ≡ false → q ≡ false → (p || q) ≡ false
-  both_false true q h g = h
-  both_false false q h g = g
-
   above_false : (r : Row) (o : Option ℕ) → r.parent ≡ o → ((p : ℕ) → r.parent ≡ Some p → outermost rows p ≡ None → is_closing rows p ≡ false) → outermost_from rows o ≡ None → at_or_above (length rows) (λ r. r.closing) rows o ≡ false
   above_false r None parent up e = above_root (length rows) (λ r. r.closing) rows
   above_false r (Some p) parent up e = up p parent e
@@ -164,7 +157,7 @@ module _ (rows : List Row) (next : ℕ) (orderly : IsOrderly rows next) where
       step i r lives up none =
           let parts : (outermost_from rows r.parent ≡ None) × (cond (has_closing rows i) (Some i) None ≡ None) = or_nothing (outermost_from rows r.parent) (cond (has_closing rows i) (Some i) None) (sym (top_step i r lives) ∙ none) in
           some_above-step (λ r. r.closing) rows next i r orderly lives
-          ∙ both_false r.closing (at_or_above (length rows) (λ r. r.closing) rows r.parent) (sym (ap (λ o. option_map_or (λ r. r.closing) o false) lives) ∙ unclosing (has_closing rows i) i parts.1) (above_false r r.parent refl up parts.0)
+          ∙ or_from r.closing (at_or_above (length rows) (λ r. r.closing) rows r.parent) (sym (ap (λ o. option_map_or (λ r. r.closing) o false) lives) ∙ unclosing (has_closing rows i) i parts.1) (above_false r r.parent refl up parts.0)
 
   -- where there is none, the row isn't closing
   pub no_top : (i : ℕ) → outermost rows i ≡ None → is_closing rows i ≡ false

@@ -19,10 +19,6 @@ use Rattle.cm_walk.proofs.ways.Standing as standing
 pub true_not_false : {A : Type 0} (p : Bool) → IsTrue p → p ≡ false → A
 true_not_false p h g = absurd (true≢false (sym h ∙ g))
 
-pub flip_not : (p : Bool) → IsTrue (not p) → p ≡ false
-flip_not true h = never h
-flip_not false h = refl
-
 pub some_eq : (o : Option ℕ) (p : ℕ) → IsTrue (option_eq nat_eq o (Some p)) → o ≡ Some p
 some_eq None p h = never h
 some_eq (Some q) p h = ap Some ((unsigned_Decides q p).0 h)

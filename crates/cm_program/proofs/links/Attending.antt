@@ -1,5 +1,5 @@
 -- What came of the sessions of all links, once the manager is closed.
-use Rattle.std.proofs.Common.{◌≡◌, ◌≢◌, inl, inr, ℕ, zero, suc, ◌+◌, ◌<◌, List, [], ◌∷◌, ◌++◌, All, map, length, get_or, Option, Some, refl, sym, ap, ◌∙◌, subst, arith}
+use Rattle.std.proofs.Common.{◌≡◌, ◌≢◌, inl, inr, ℕ, zero, suc, ◌+◌, ◌<◌, List, [], ◌∷◌, ◌++◌, All, map, length, get_or, Option, Some, refl, sym, ap, ◌∙◌, subst, arith, zero-add}
 use Rattle.std.specs.List.{slice_get}
 use Rattle.std.proofs.lemmas.List.Elements.{All-append, All-cons, All-nil, All-weaker}
 use Rattle.std.proofs.lemmas.Option.{slice_get_within}
@@ -76,9 +76,6 @@ module _ {G L : Type 0} (log_of : G → Option (List GateCall)) (faults_of : G �
       })
 
 -- ---- the closed manager
-
-zero_plus : (k : ℕ) → 0 + k ≡ k
-zero_plus k = omega arith
 
 not_memory : (why : Cause) → status_of why ≢ 6 → why ≢ cause.Memory
 not_memory why other is = other (ap status_of is)
@@ -175,7 +172,7 @@ module _ {D G L : Type 0} (log_of : G → Option (List GateCall)) (faults_of : G
         let is = visited view status history manifests vs b.p b.q (gates_view log_of faults_of b.g) (gates_view log_of faults_of b.h) serves came
         (λ other. all_at (All (λ (v : ServedLink). v.ended ≢ ended.Memory)) all.visits i vs (all.well (not_memory back.cause other)) at)
         (subst (λ (c : ℕ). IsLaterHistory c b.q.seen history) (sym b.p_caller) (later i b)) in
-        let caller : b.p.caller ≡ 0 + i = b.p_caller ∙ sym (zero_plus i) in
+        let caller : b.p.caller ≡ 0 + i = b.p_caller ∙ sym (zero-add i) in
         subst (λ (l : List Entry). Visited view status history f (0 + i) vs l) b.no_seen
         (subst (λ (c : ℕ). Visited view status history f c vs b.p.seen) caller
         (subst (λ (x : Frame). Visited view status history x b.p.caller vs b.p.seen) (ap frame_in b.fresh_pass.frame) is))
@@ -193,7 +190,7 @@ module _ {D G L : Type 0} (log_of : G → Option (List GateCall)) (faults_of : G
           workers_are = low_workers workers 0 all.visits (λ i vs past at. all.idle i vs (omega (arith, past)) at);
           order = in_order 0 0 all.visits (omega arith);
           legal = legal;
-          entries = λ k lt. subst (λ (n : ℕ). FollowsEach f n (sats_by n (worker_by_worker 0 all.visits) all_joined.sats) [] history) (zero_plus k) (all_joined.entries k (subst (λ (n : ℕ). k < n) (sym all.count) lt));
+          entries = λ k lt. subst (λ (n : ℕ). FollowsEach f n (sats_by n (worker_by_worker 0 all.visits) all_joined.sats) [] history) (zero-add k) (all_joined.entries k (subst (λ (n : ℕ). k < n) (sym all.count) lt));
           callers = low;
           laws = laws;
           work = work;

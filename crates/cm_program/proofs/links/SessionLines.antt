@@ -5,6 +5,7 @@ use Rattle.std.specs.Str.{bytes_eq}
 use Rattle.std.specs.Io.KnownBytes.{IsAtEnd}
 use Rattle.std.proofs.lemmas.Slice.Eq.{bytes_eq-Decides}
 use Rattle.std.proofs.lemmas.List.Elements.{All-head, All-tail, Contains-append_right}
+use Rattle.std.proofs.lemmas.Bool.{cases_Bool}
 use Rattle.cm_io.specs.Lines.{in_prefix, lines}
 use Rattle.cm_reply.specs.Lists.{TextBytes}
 use Rattle.cm_session.specs.Links.{BeginsWithBytes, in_prefix_of_some, whole_lines}
@@ -14,13 +15,9 @@ use Rattle.cm_program.proofs.lanes.Sixteen.{all_prefix}
 
 -- ---- up to the first `quit`
 
-bool_or : (b : Bool) → (b ≡ true) ⊎ (b ≡ false)
-bool_or true = inl refl
-bool_or false = inr refl
-
 not_quit : (t : TextBytes) → t ≢ quit → bytes_eq t quit ≡ false
 not_quit t other =
-    elim (bool_or (bytes_eq t quit)) [
+    elim (cases_Bool (bytes_eq t quit)) [
       | inl is ↦ absurd (other ((bytes_eq-Decides t quit).0 is))
       | inr apart ↦ apart
     ]

@@ -1,8 +1,8 @@
 -- What came of the links of each worker, and of all.
-use Rattle.std.proofs.Common.{◌≡◌, ◌≢◌, ◌⊎◌, inl, inr, ℕ, zero, suc, ◌+◌, ◌<◌, ◌≤◌, Bool, true, false, cond, nat_eq, List, [], ◌∷◌, ◌++◌, All, map, length, Some, append-nil, refl, sym, ap, ◌∙◌, subst, arith}
+use Rattle.std.proofs.Common.{◌≡◌, ◌≢◌, ◌⊎◌, inl, inr, ℕ, zero, suc, ◌+◌, ◌<◌, ◌≤◌, Bool, true, false, cond, nat_eq, List, [], ◌∷◌, ◌++◌, All, map, length, Some, append-nil, refl, sym, ap, ◌∙◌, subst, arith, ne_eqb, eq-eqb}
 use Rattle.std.specs.List.{AllZip, slice_get}
-use Rattle.std.proofs.lemmas.Bool.Decides.{nat_tests}
 use Rattle.std.proofs.lemmas.List.Elements.{All-append, All-cons, All-head, All-nil, All-tail}
+use Rattle.std.proofs.lemmas.Bool.{cases_lt}
 use Rattle.cm_world.specs.declared.frame.Frame.{Frame}
 use Rattle.cm_world.specs.declared.reply.Entry.{Entry}
 use Rattle.cm_manager.specs.Asking.{frame_of}
@@ -39,12 +39,6 @@ module _ {L : Type 0} (view : L → LinkView) (status : ℕ) (history : List Ent
 
 -- ---- lists of links
 
-same_number : (a b : ℕ) → a ≡ b → nat_eq a b ≡ true
-same_number a b is = grind (arith, nat_tests, is)
-
-other_number : (a b : ℕ) → (a ≡ b → ⊥) → nat_eq a b ≡ false
-other_number a b apart = grind (arith, nat_tests, apart)
-
 zip_append : {A B : Type 0} (R : A → B → Type 0) (xs ys : List A) (ss ts : List B) → AllZip R xs ss → AllZip R ys ts → AllZip R (xs ++ ys) (ss ++ ts)
 zip_append R [] ys [] ts h k = k
 zip_append R [] ys (s ∷ ss) ts h k = absurd h
@@ -77,14 +71,14 @@ own_by R k c [] [] same h = refl
 own_by R k c [] (s ∷ ss) same h = absurd h
 own_by R k c (v ∷ vs) [] same h = absurd h
 own_by R k c (v ∷ vs) (s ∷ ss) same h =
-    ap (λ (t : Bool). cond t (s ∷ sats_by c (map (back_of k) vs) ss) (sats_by c (map (back_of k) vs) ss)) (same_number k c same)
+    ap (λ (t : Bool). cond t (s ∷ sats_by c (map (back_of k) vs) ss) (sats_by c (map (back_of k) vs) ss)) (eq-eqb k c same)
     ∙ ap (λ (l : List SessionRecord). s ∷ l) (own_by R k c vs ss same h.1)
 
 other_by : (k c : ℕ) (vs : List ServedLink) (ss : List SessionRecord) → (k ≡ c → ⊥) → sats_by c (map (back_of k) vs) ss ≡ []
 other_by k c [] ss apart = refl
 other_by k c (v ∷ vs) [] apart = refl
 other_by k c (v ∷ vs) (s ∷ ss) apart =
-    ap (λ (t : Bool). cond t (s ∷ sats_by c (map (back_of k) vs) ss) (sats_by c (map (back_of k) vs) ss)) (other_number k c apart)
+    ap (λ (t : Bool). cond t (s ∷ sats_by c (map (back_of k) vs) ss) (sats_by c (map (back_of k) vs) ss)) (ne_eqb k c apart)
     ∙ other_by k c vs ss apart
 
 -- ---- all workers
@@ -149,11 +143,6 @@ module _ {L : Type 0} (view : L → LinkView) (status : ℕ) (history : List Ent
 
 -- ---- which workers
 
-lower : (n k : ℕ) → (k < n) ⊎ (n ≤ k)
-lower zero k = inr (omega arith)
-lower (suc n) zero = inl (omega arith)
-lower (suc n) (suc k) = elim (lower n k) [ inl lt ↦ inl (omega (arith, lt)) | inr le ↦ inr (omega (arith, le)) ]
-
 low_backs : (workers k : ℕ) (vs : List ServedLink) → k < workers → All (λ (b : Back LinkView). b.worker < workers) (map (back_of k) vs)
 low_backs workers k [] lt = All-nil (λ (b : Back LinkView). b.worker < workers)
 low_backs workers k (v ∷ vs) lt = All-cons (λ (b : Back LinkView). b.worker < workers) (back_of k v) (map (back_of k) vs) lt (low_backs workers k vs lt)
@@ -162,7 +151,7 @@ low_backs workers k (v ∷ vs) lt = All-cons (λ (b : Back LinkView). b.worker <
 pub low_workers : (workers k : ℕ) (visits : List (List ServedLink)) → ((i : ℕ) (vs : List ServedLink) → workers ≤ k + i → slice_get visits i ≡ Some vs → vs ≡ []) → All (λ (b : Back LinkView). b.worker < workers) (worker_by_worker k visits)
 low_workers workers k [] idle = All-nil (λ (b : Back LinkView). b.worker < workers)
 low_workers workers k (vs ∷ others) idle =
-    All-append (λ (b : Back LinkView). b.worker < workers) (map (back_of k) vs) (worker_by_worker (k + 1) others) (by (lower workers k))
+    All-append (λ (b : Back LinkView). b.worker < workers) (map (back_of k) vs) (worker_by_worker (k + 1) others) (by (cases_lt k workers))
     (low_workers workers (k + 1) others (λ i ws past at. idle (suc i) ws (omega (arith, past)) at))
   where
     by : (k < workers) ⊎ (workers ≤ k) → All (λ (b : Back LinkView). b.worker < workers) (map (back_of k) vs)

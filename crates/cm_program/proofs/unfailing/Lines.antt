@@ -1,5 +1,5 @@
 -- What a script's lines, and the commands of links, are answered where no outcome that was told had failed.
-use Rattle.std.proofs.Common.{◌≡◌, inl, inr, ℕ, ◌<◌, List, [], ◌∷◌, Bool, true, false, cond, nat_eq, ◌==◌, Result, All, map, refl, sym, ap, subst, arith}
+use Rattle.std.proofs.Common.{◌≡◌, inl, inr, ℕ, ◌<◌, List, [], ◌∷◌, Bool, true, false, cond, nat_eq, ◌==◌, Result, All, map, refl, sym, ap, subst, arith, eq-eqb}
 use Rattle.std.specs.List.{AllZip}
 use Rattle.std.proofs.lemmas.Bool.Decides.{nat_tests}
 use Rattle.std.proofs.lemmas.List.Elements.{All-cons, All-nil, All-head, All-tail}
@@ -77,12 +77,9 @@ module _ (f : Frame) (c : ℕ) where
 
 -- ---- all lanes
 
-here : (n c : ℕ) → n ≡ c → (n == c) ≡ true
-here n c same = grind (arith, same)
-
 module _ (P : AnsweredLine → Type 0) where
   kept_of : (a : AnsweredLine) (xs : List AnsweredLine) → answers_of a.line.lane (a ∷ xs) ≡ a ∷ answers_of a.line.lane xs
-  kept_of a xs = ap (λ (b : Bool). cond b (a ∷ answers_of a.line.lane xs) (answers_of a.line.lane xs)) (here a.line.lane a.line.lane refl)
+  kept_of a xs = ap (λ (b : Bool). cond b (a ∷ answers_of a.line.lane xs) (answers_of a.line.lane xs)) (eq-eqb a.line.lane a.line.lane refl)
 
   other_of : (b : Bool) (c : ℕ) (a : AnsweredLine) (xs : List AnsweredLine) → (a.line.lane == c) ≡ b → All P (answers_of c (a ∷ xs)) → All P (answers_of c xs)
   other_of true c a xs is h = All-tail P a (answers_of c xs) (subst (All P) (ap (λ (b : Bool). cond b (a ∷ answers_of c xs) (answers_of c xs)) is) h)

@@ -1,5 +1,5 @@
 -- What is written for a declaration is read back.
-use Rattle.std.proofs.Common.{◌≡◌, ℕ, suc, ◌≤◌, ◌+◌, List, [], ◌∷◌, ◌++◌, length, map, Option, Some, None, Ok}
+use Rattle.std.proofs.Common.{◌≡◌, ℕ, suc, ◌≤◌, ◌+◌, List, [], ◌∷◌, ◌++◌, length, map, Option, Some, None, Ok, length-append}
 use Rattle.std.proofs.Common.{refl, ap, sym, subst, ◌∙◌, arith, append-nil}
 use Rattle.std.specs.Prelude.{filter_map}
 use Rattle.std.specs.List.{cons_option}
@@ -54,15 +54,11 @@ length_map : {A B : Type 0} (f : A → B) (xs : List A) → length (map f xs) �
 length_map f [] = refl
 length_map f (x ∷ xs) = ap suc (length_map f xs)
 
-length_append : {A : Type 0} (xs ys : List A) → length (xs ++ ys) ≡ length xs + length ys
-length_append [] ys = omega arith
-length_append (x ∷ xs) ys = omega (arith, length_append xs ys)
-
 -- as many rows as there are values in two lists
 two_lengths : {A B R : Type 0} (f : A → R) (g : B → R) (xs : List A) (ys : List B)
     → length (map f xs ++ map g ys) ≡ length xs + length ys
 two_lengths f g xs ys =
-    length_append (map f xs) (map g ys) ∙ ap (λ n. n + length (map g ys)) (length_map f xs)
+    length-append (map f xs) (map g ys) ∙ ap (λ n. n + length (map g ys)) (length_map f xs)
     ∙ ap (λ n. length xs + n) (length_map g ys)
 
 few_capabilities : (d : Decl) → IsReadable d → length (capability_rows d) ≤ max_rows
@@ -76,7 +72,7 @@ few_offers d h =
 few_uses : (d : Decl) → IsReadable d → length (use_rows d) ≤ max_rows
 few_uses d h =
     let others = two_lengths use_row.Debug use_row.Storage d.debug_uses d.storage_uses in
-    let all = length_append (map use_row.Usage d.uses) (map use_row.Debug d.debug_uses ++ map use_row.Storage d.storage_uses)
+    let all = length-append (map use_row.Usage d.uses) (map use_row.Debug d.debug_uses ++ map use_row.Storage d.storage_uses)
     ∙ ap (λ n. n + length (map use_row.Debug d.debug_uses ++ map use_row.Storage d.storage_uses)) (length_map use_row.Usage d.uses)
     ∙ ap (λ n. length d.uses + n) others in
     subst (λ n. n ≤ max_rows) (sym all) h.use_rows

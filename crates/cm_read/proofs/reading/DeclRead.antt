@@ -1,5 +1,5 @@
 -- What a manifest declares is readable, and so well formed.
-use Rattle.std.proofs.Common.{◌≡◌, ℕ, ◌≤◌, List, [], length, codes, Bool, true, false, not, ◌&&◌, nat_le, Option, Some, None, Ok, Err, IsTrue, refl, arith, rules}
+use Rattle.std.proofs.Common.{◌≡◌, ℕ, ◌≤◌, List, [], length, codes, true, false, not, ◌&&◌, nat_le, Option, Some, None, Ok, Err, IsTrue, refl, arith, rules}
 use Rattle.std.specs.Prelude.{IfOk, All, ok_or}
 use Rattle.std.specs.List.{list_all}
 use Rattle.std.proofs.lemmas.Result.{IfOk-at_ok}
@@ -24,6 +24,7 @@ use Rattle.cm_read.specs.ReadingInside.{GivesReading}
 use Rattle.cm_read.specs.Fields.{object_at}
 use Rattle.std.specs.Prelude.{◌+◌, filter_map, is_none}
 use Rattle.std.proofs.Common.{◌∷◌, ap}
+use Rattle.std.proofs.lemmas.Bool.{and_from}
 use Rattle.cm_decl.specs.declared.environment.Registration.{Registration}
 use Rattle.cm_decl.specs.declared.environment.Environment.{Environment}
 use Rattle.cm_decl.specs.declared.storage.Storage.{Storage}
@@ -209,33 +210,29 @@ is_of_storage origin.Framework h = absurd h
 is_of_storage (origin.Child c) h = absurd h
 is_of_storage origin.Void h = refl
 
-both : (a b : Bool) → a ≡ true → b ≡ true → (a && b) ≡ true
-both true b e f = f
-both false b e f = e
-
 registrations_formed : (rs : List Registration) → All IsRegistration rs → are_registrations rs ≡ true
 registrations_formed rs h =
     list_all-from_AllPass (λ (r : Registration). is_static_source r.from) rs (λ k z lt. is_static _ (h k z lt).from)
 
 environment_formed : (e : Environment) → IsEnvironment e → is_environment e ≡ true
 environment_formed e h =
-    both (are_registrations e.runners) (are_registrations e.debug) (registrations_formed e.runners h.runners)
+    and_from (are_registrations e.runners) (are_registrations e.debug) (registrations_formed e.runners h.runners)
     (registrations_formed e.debug h.debug)
 
 further_formed : (d : Decl) → IsReadable d → is_further_formed d ≡ true
 further_formed d h =
-    both (list_all is_environment d.environments)
+    and_from (list_all is_environment d.environments)
     (list_all (λ s. is_static_source s.from) d.storages && list_all (λ o. is_storage_source o.from) d.storage_offers)
     (list_all-from_AllPass is_environment d.environments (λ k z lt. environment_formed _ (h.environments.each k z lt)))
-    (both (list_all (λ s. is_static_source s.from) d.storages) (list_all (λ o. is_storage_source o.from) d.storage_offers)
+    (and_from (list_all (λ s. is_static_source s.from) d.storages) (list_all (λ o. is_storage_source o.from) d.storage_offers)
     (list_all-from_AllPass (λ (s : Storage). is_static_source s.from) d.storages (λ k z lt. is_static _ (h.storages k z lt).from))
     (list_all-from_AllPass (λ (o : StorageOffer). is_storage_source o.from) d.storage_offers (λ k z lt. is_of_storage _ (h.storage_offers k z lt).from)))
 
 pub readable_is_well_formed_lem : ReadableIsWellFormed
 readable_is_well_formed_lem d h =
-    both (list_all (λ u. not (is_void u.from)) d.uses) (list_all (λ g. not (is_parent g.from)) d.exposes && is_further_formed d)
+    and_from (list_all (λ u. not (is_void u.from)) d.uses) (list_all (λ g. not (is_parent g.from)) d.exposes && is_further_formed d)
     (list_all-from_AllPass (λ (u : Usage). not (is_void u.from)) d.uses (λ k z lt. not_void _ (h.uses.each k z lt).from))
-    (both (list_all (λ g. not (is_parent g.from)) d.exposes) (is_further_formed d)
+    (and_from (list_all (λ g. not (is_parent g.from)) d.exposes) (is_further_formed d)
     (list_all-from_AllPass (λ (g : Give). not (is_parent g.from)) d.exposes (λ k z lt. not_parent _ (h.exposes.each k z lt).give.from))
     (further_formed d h))
 

@@ -1,5 +1,5 @@
 -- What is read in a field: names, paths, rights and origins.
-use Rattle.std.proofs.Common.{◌≡◌, ℕ, List, [], ◌∷◌, codes, Bool, true, false, ◌||◌, Option, Some, None, option_map, Result, Ok, Err, IsTrue, refl, sym, ap, ◌∙◌, true≢false}
+use Rattle.std.proofs.Common.{◌≡◌, ℕ, List, [], ◌∷◌, codes, Bool, true, false, Option, Some, None, option_map, Result, Ok, Err, IsTrue, refl, sym, ap, ◌∙◌, true≢false}
 use Rattle.std.specs.Prelude.{IfSome, All, ok_or}
 use Rattle.std.specs.Str.{bytes_eq}
 use Rattle.serde_json.specs.Data.{Data}
@@ -20,6 +20,7 @@ use Rattle.cm_names.specs.Steps.{◌>>=◌}
 use Rattle.cm_read.specs.Reading.{bad}
 use Rattle.cm_read.specs.Fields.{needed_at, text_at, name_from, name_in_at, name_at, url_at, path_in_at, path_at, subdir_in_at, subdir_at, texts_in_at, texts_at, names_at, behind_mark, reference_from, references_at, rights_from, rights_in_at, rights_at}
 use Rattle.std.specs.Prelude.{◌≢◌, not, ◌&&◌, if◌then◌else◌}
+use Rattle.std.proofs.lemmas.Bool.{or_left}
 use Rattle.cm_names.specs.declared.availability.Availability.TheVariants.{Required, Optional, Transitional}
 use Rattle.cm_names.specs.declared.availability.Availability.TheVariants.{SameAsTarget}
 use Rattle.cm_names.specs.Urls.{is_url_text}
@@ -129,20 +130,16 @@ word_means w =
     (means (bytes_eq w (codes "rx*")) (union reading executing) (connects (union reading executing) refl)
     (named_means (right_named w))))))
 
-or_here : (a b : Bool) → a ≡ true → (a || b) ≡ true
-or_here true b e = refl
-or_here false b e = absurd (true≢false (sym e))
-
 union_has : (a b : RightSet) (x : Right) → has a x ≡ true → has (union a b) x ≡ true
-union_has a b Connect e = or_here a.connect b.connect e
-union_has a b Enumerate e = or_here a.enumerate b.enumerate e
-union_has a b Execute e = or_here a.execute b.execute e
-union_has a b GetAttributes e = or_here a.get_attributes b.get_attributes e
-union_has a b ModifyDirectory e = or_here a.modify_directory b.modify_directory e
-union_has a b ReadBytes e = or_here a.read_bytes b.read_bytes e
-union_has a b Traverse e = or_here a.traverse b.traverse e
-union_has a b UpdateAttributes e = or_here a.update_attributes b.update_attributes e
-union_has a b WriteBytes e = or_here a.write_bytes b.write_bytes e
+union_has a b Connect e = or_left a.connect b.connect e
+union_has a b Enumerate e = or_left a.enumerate b.enumerate e
+union_has a b Execute e = or_left a.execute b.execute e
+union_has a b GetAttributes e = or_left a.get_attributes b.get_attributes e
+union_has a b ModifyDirectory e = or_left a.modify_directory b.modify_directory e
+union_has a b ReadBytes e = or_left a.read_bytes b.read_bytes e
+union_has a b Traverse e = or_left a.traverse b.traverse e
+union_has a b UpdateAttributes e = or_left a.update_attributes b.update_attributes e
+union_has a b WriteBytes e = or_left a.write_bytes b.write_bytes e
 
 none_has : (x : Right) → has no_rights x ≡ true → ⊥
 none_has Connect e = true≢false (sym e)

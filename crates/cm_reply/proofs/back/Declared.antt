@@ -1,10 +1,10 @@
 -- The text of a declaration that can be read back is UTF-8.
-use Rattle.std.proofs.Common.{◌≡◌, ℕ, suc, ◌+◌, ◌<◌, List, [], ◌∷◌, ◌++◌, length, codes, map, filter, Bool, true, false, Option, Some, None, Less, Equal, Greater, nat_cmp, IsTrue, IsUtf8, All, Ok, Err, refl, sym, ap, subst, ◌∙◌, arith}
+use Rattle.std.proofs.Common.{◌≡◌, ℕ, ◌+◌, ◌<◌, List, [], ◌∷◌, ◌++◌, length, codes, map, filter, Bool, true, false, Option, Some, None, Less, Equal, Greater, nat_cmp, IsTrue, IsUtf8, All, Ok, Err, refl, sym, ap, subst, ◌∙◌, arith}
 use Rattle.std.specs.Prelude.{IfSome}
 use Rattle.std.specs.Cmp.Lexicographic.{slice_cmp}
 use Rattle.std.specs.Ordering.{match_ordering}
 use Rattle.std.proofs.lemmas.Str.{IsUtf8-append, IsUtf8-nil}
-use Rattle.std.proofs.lemmas.List.Elements.{All-cons}
+use Rattle.std.proofs.lemmas.List.Elements.{All-cons, All-tail}
 use Rattle.json.specs.Print.{quoted}
 use Rattle.json.proofs.Printed.Utf8.{IsUtf8-quoted, IsUtf8-are_ascii}
 use Rattle.serde_json.specs.Data.{Data, null, boolean, number, string, array, object, Items, no_items, item, Members, no_members, member, put}
@@ -124,18 +124,15 @@ both_pairs : (ps qs : Pairs) → PairsAre ps → PairsAre qs → PairsAre (ps ++
 both_pairs [] qs h k = k
 both_pairs (p ∷ ps) qs h k = (h.0, both_pairs ps qs h.1 k)
 
-tail_all : {A : Type 0} (P : A → Type 0) (x : A) (xs : List A) → All P (x ∷ xs) → All P xs
-tail_all P x xs h i d lt = h (suc i) d (omega arith)
-
 -- rows of one kind, and what stands behind them
 items_before : {A : Type 0} (P : A → Type 0) (write : A → Data) (xs : List A) (rest : List Data) → ((x : A) → P x → AreTexts (write x)) → All P xs → ItemsAre (items_of rest) → ItemsAre (items_of (map write xs ++ rest))
 items_before P write [] rest each all behind = behind
 items_before P write (x ∷ xs) rest each all behind =
-    (each x (all 0 x (omega arith)), items_before P write xs rest each (tail_all P x xs all) behind)
+    (each x (all 0 x (omega arith)), items_before P write xs rest each (All-tail P x xs all) behind)
 
 list_texts : {A : Type 0} (P : A → Type 0) (write : A → Data) (xs : List A) → ((x : A) → P x → AreTexts (write x)) → All P xs → ItemsAre (items_of (map write xs))
 list_texts P write [] each all = tt
-list_texts P write (x ∷ xs) each all = (each x (all 0 x (omega arith)), list_texts P write xs each (tail_all P x xs all))
+list_texts P write (x ∷ xs) each all = (each x (all 0 x (omega arith)), list_texts P write xs each (All-tail P x xs all))
 
 -- ---- words
 

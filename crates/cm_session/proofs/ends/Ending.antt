@@ -4,7 +4,7 @@ use mathlib.Core.Logic.{dite}
 use native.Mathlib.Decide.{dec_lt}
 use Rattle.std.specs.List.{slice_get}
 use Rattle.std.proofs.lemmas.List.{length-append, length-map, take_all, drop_all}
-use Rattle.std.proofs.lemmas.Option.{slice_get-get_or, slice_get_within, get_or_from_slice_get}
+use Rattle.std.proofs.lemmas.Option.{slice_get-get_or, slice_get_within, get_or_from_slice_get, same_Some}
 use Rattle.std.proofs.Math.ListN.{get_or-append}
 use Rattle.std.proofs.Math.Seq.{get_or-append_seam}
 use Rattle.cm_gate.specs.declared.asked.GateCall.{GateCall}
@@ -25,7 +25,6 @@ use Rattle.cm_session.specs.PoolParts.{AreWorkerParts, HasPasses, PoolPartsHaveR
 use Rattle.cm_session.specs.Serving.{AreWell, EndsLost, StopsAtLoss, ServedLink}
 use Rattle.cm_session.proofs.work.Making.{Made}
 use Rattle.cm_session.proofs.work.Places.{all_places, any_place, as_long, at_map, at_place, field_at, item_at, there_at}
-use Rattle.cm_session.proofs.work.Working.{some_same}
 
 -- a slice that took the place of a whole vector
 pub whole_slice : {A : Type 0} (xs ys : List A) (n : ℕ) → n ≡ length xs → length ys ≡ length xs → take n (ys ++ drop (length ys) xs) ≡ ys
@@ -79,9 +78,9 @@ module _ {G L : Type 0} (log_of : G → Option (List GateCall)) (faults_of : G �
       (first.visits ∷ others.0, record { count = ap suc others.1.count; each = each first.visits first.worked others.0 others.1 }) where
         each : (v : List ServedLink) → WorkerWorked log_of faults_of view manifests workers v x y → (vs : List (List ServedLink)) → Visited xs ys vs → (k : ℕ) (a b : Worker G L) (c : List ServedLink) → slice_get (x ∷ xs) k ≡ Some a → slice_get (y ∷ ys) k ≡ Some b → slice_get (v ∷ vs) k ≡ Some c → WorkerWorked log_of faults_of view manifests workers c a b
         each v worked vs visited zero a b c ha hb hc =
-            subst (λ (z : List ServedLink). WorkerWorked log_of faults_of view manifests workers z a b) (some_same v c hc)
-            (subst (λ (z : Worker G L). WorkerWorked log_of faults_of view manifests workers v a z) (some_same y b hb)
-            (subst (λ (z : Worker G L). WorkerWorked log_of faults_of view manifests workers v z y) (some_same x a ha) worked))
+            subst (λ (z : List ServedLink). WorkerWorked log_of faults_of view manifests workers z a b) (same_Some v c hc)
+            (subst (λ (z : Worker G L). WorkerWorked log_of faults_of view manifests workers v a z) (same_Some y b hb)
+            (subst (λ (z : Worker G L). WorkerWorked log_of faults_of view manifests workers v z y) (same_Some x a ha) worked))
         each v worked vs visited (suc k) a b c ha hb hc = visited.each k a b c ha hb hc
 
   -- what was at one place, and what is there now

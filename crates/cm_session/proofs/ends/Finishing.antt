@@ -2,7 +2,8 @@
 use Rattle.std.proofs.Common.{◌≡◌, ◌≢◌, ◌⊎◌, ℕ, suc, ◌+◌, ◌<◌, ◌≤◌, List, [], ◌∷◌, ◌++◌, All, map, length, Bool, true, false, Option, Some, inl, inr, refl, sym, ap, ◌∙◌, subst, arith}
 use Rattle.std.specs.List.{slice_get}
 use Rattle.std.proofs.lemmas.List.{length-map, map-append}
-use Rattle.std.proofs.lemmas.Option.{slice_get_within}
+use Rattle.std.proofs.lemmas.Option.{slice_get_within, same_Some}
+use mathlib.Core.List.{map-map}
 use Rattle.cm_gate.specs.declared.asked.GateCall.{GateCall}
 use Rattle.cm_io.specs.Doors.{DoorPlace}
 use Rattle.cm_io.specs.Outside.{Rose}
@@ -32,13 +33,8 @@ use Rattle.cm_session.proofs.ends.Ending.{PlaceAt, Places, new_at}
 use Rattle.cm_session.proofs.work.Places.{all_places, at_place, map_same, there_at}
 use Rattle.cm_session.proofs.links.Visits.{serves_keep}
 use Rattle.cm_session.proofs.spoken.Kept.{caller_kept, keeps_kept, lock_kept}
-use Rattle.cm_session.proofs.work.Working.{some_same}
 
 -- ---- the links, worker by worker
-
-map_then : {A B C : Type 0} (f : B → C) (g : A → B) (xs : List A) → map f (map g xs) ≡ map (λ x. f (g x)) xs
-map_then f g [] = refl
-map_then f g (x ∷ xs) = ap (λ (l : List _). f (g x) ∷ l) (map_then f g xs)
 
 pub merged : {L : Type 0} (view : L → LinkView) (k : ℕ) (links : List (Links L)) (visits : List (List ServedLink)) → length links ≡ length visits → ((i : ℕ) (r : Links L) (vs : List ServedLink) → slice_get links i ≡ Some r → slice_get visits i ≡ Some vs → map view r.items ≡ map (λ v. v.now) vs) → map (back_view view) (links_from k links) ≡ worker_by_worker k visits
 merged view k [] [] long each = refl
@@ -47,7 +43,7 @@ merged view k (r ∷ rs) [] long each = absurd (cc long)
 merged {L} view k (r ∷ rs) (vs ∷ visits) long each =
     let back : LinkView → Back LinkView = λ l. record { worker = k; link = l } in
     let first : map (back_view view) (backs_of k r.items) ≡ map (λ (v : ServedLink). back v.now) vs =
-    map_then (back_view view) (λ (l : L). record { worker = k; link = l }) r.items ∙ sym (map_then back view r.items) ∙ ap (map back) (each 0 r vs refl refl) ∙ map_then back (λ (v : ServedLink). v.now) vs in
+    map-map (back_view view) (λ (l : L). record { worker = k; link = l }) r.items ∙ sym (map-map back view r.items) ∙ ap (map back) (each 0 r vs refl refl) ∙ map-map back (λ (v : ServedLink). v.now) vs in
     let rest = merged view (k + 1) rs visits (cc long) (λ i x y a b. each (suc i) x y a b) in
     map-append (back_view view) (backs_of k r.items) (links_from (k + 1) rs) ∙ ap (λ (l : List (Back LinkView)). l ++ map (back_view view) (links_from (k + 1) rs)) first ∙ ap (λ (l : List (Back LinkView)). map (λ (v : ServedLink). back v.now) vs ++ l) rest
 
@@ -89,7 +85,7 @@ module _ {G L : Type 0} (log_of : G → Option (List GateCall)) (faults_of : G �
       let within : k < length parts.at_door.items = slice_get_within parts.at_door.items k e there in
       let v = there_at visits k (grind (arith, within, pl.doors_long, pl.count)) in
       let place = pl.each k v.0 v.1 in
-      let is : place.e ≡ e = some_same place.e e (sym place.e_is ∙ there) in
+      let is : place.e ≡ e = same_Some place.e e (sym place.e_is ∙ there) in
       let first : place.d ≡ new_pass door.lock o k = new_at door o 16 k place.d (subst (λ (l : List DoorPass). slice_get l k ≡ Some place.d) new place.d_is) in
       record {
         vs = v.0;
@@ -122,7 +118,7 @@ module _ {G L : Type 0} (log_of : G → Option (List GateCall)) (faults_of : G �
     each : (k : ℕ) (e : DoorPass) (r : Links L) → slice_get parts.at_door.items k ≡ Some e → slice_get parts.links.items k ≡ Some r → links_of e.mine ≡ length r.items
     each k e r there r_there =
         let at = door_at k e there in
-        let r_is : at.place.r ≡ r = some_same at.place.r r (sym at.place.r_is ∙ r_there) in
+        let r_is : at.place.r ≡ r = same_Some at.place.r r (sym at.place.r_is ∙ r_there) in
         let as_many : length r.items ≡ length at.vs = sym (length-map r.items view) ∙ ap (λ (x : Links L). length (map view x.items)) (sym r_is) ∙ ap (λ (l : List LinkView). length l) at.place.served.links_are ∙ length-map at.vs (λ (v : ServedLink). v.now) in
         ap (λ (p : DoorPass). links_of p.mine) (sym at.is) ∙ at.place.served.counts ∙ sym as_many
 
@@ -133,7 +129,7 @@ module _ {G L : Type 0} (log_of : G → Option (List GateCall)) (faults_of : G �
     zero_at = there_at parts.at_door.items 0 (grind (arith, pl.doors_long, sixteen))
 
     opening_is : is.opening ≡ o
-    opening_is = some_same is.opening o (sym (at_place (λ (p : DoorPass). p.frame ≡ Some is.opening) parts.at_door.items 0 zero_at.0 is.opened zero_at.1) ∙ (door_at 0 zero_at.0 zero_at.1).frame)
+    opening_is = same_Some is.opening o (sym (at_place (λ (p : DoorPass). p.frame ≡ Some is.opening) parts.at_door.items 0 zero_at.0 is.opened zero_at.1) ∙ (door_at 0 zero_at.0 zero_at.1).frame)
 
     pub counts_first : is.opening.counts ≡ first
     counts_first = ap (λ (x : Opening). x.counts) opening_is ∙ opened
@@ -181,17 +177,17 @@ module _ {G L : Type 0} (log_of : G → Option (List GateCall)) (faults_of : G �
       kept_at : (k : ℕ) (vs : List ServedLink) (p q : RealmPass) (g h : G) → slice_get visits k ≡ Some vs → slice_get passes k ≡ Some p → slice_get back.passes k ≡ Some q → slice_get gates k ≡ Some g → slice_get back.gates k ≡ Some h → ServesVisits manifests vs p q (gates_view log_of faults_of g) (gates_view log_of faults_of h)
       kept_at k vs p q g h v_there p_there q_there g_there h_there =
           let place = pl.each k vs v_there in
-          let p_same = some_same place.p p (sym place.p_is ∙ p_there) in
-          let q_same = some_same place.q q (sym place.q_is ∙ subst (λ (l : List RealmPass). slice_get l k ≡ Some q) passes_are q_there) in
-          let g_same = some_same place.g g (sym place.g_is ∙ g_there) in
-          let h_same = some_same place.h h (sym place.h_is ∙ subst (λ (l : List G). slice_get l k ≡ Some h) gates_are h_there) in
+          let p_same = same_Some place.p p (sym place.p_is ∙ p_there) in
+          let q_same = same_Some place.q q (sym place.q_is ∙ subst (λ (l : List RealmPass). slice_get l k ≡ Some q) passes_are q_there) in
+          let g_same = same_Some place.g g (sym place.g_is ∙ g_there) in
+          let h_same = same_Some place.h h (sym place.h_is ∙ subst (λ (l : List G). slice_get l k ≡ Some h) gates_are h_there) in
           subst (λ (x : G). ServesVisits manifests vs p q (gates_view log_of faults_of g) (gates_view log_of faults_of x)) h_same
           (subst (λ (x : G). ServesVisits manifests vs p q (gates_view log_of faults_of x) (gates_view log_of faults_of place.h)) g_same
           (subst (λ (x : RealmPass). ServesVisits manifests vs p x (gates_view log_of faults_of place.g) (gates_view log_of faults_of place.h)) q_same
           (subst (λ (x : RealmPass). ServesVisits manifests vs x place.q (gates_view log_of faults_of place.g) (gates_view log_of faults_of place.h)) p_same place.served.serves)))
 
       now_links : (k : ℕ) (r : Links L) (vs : List ServedLink) → slice_get parts.links.items k ≡ Some r → slice_get visits k ≡ Some vs → map view r.items ≡ map (λ v. v.now) vs
-      now_links k r vs r_there v_there = (let place = pl.each k vs v_there in subst (λ (x : Links L). map view x.items ≡ map (λ v. v.now) vs) (some_same place.r r (sym place.r_is ∙ r_there)) place.served.links_are)
+      now_links k r vs r_there v_there = (let place = pl.each k vs v_there in subst (λ (x : Links L). map view x.items ≡ map (λ v. v.now) vs) (same_Some place.r r (sym place.r_is ∙ r_there)) place.served.links_are)
 
       pub serves_all : ServesAll log_of faults_of view manifests workers passes gates back
       serves_all = record {
@@ -229,7 +225,7 @@ module _ {G L : Type 0} (log_of : G → Option (List GateCall)) (faults_of : G �
             g = gates_view log_of faults_of place.g;
             h = gates_view log_of faults_of place.h;
             there = place.p_is;
-            keeps = subst (λ (x : RealmPass). KeepsOrNot manifests place.p x (gates_view log_of faults_of place.g) (gates_view log_of faults_of place.h)) (some_same place.q q (sym place.q_is ∙ q_there)) (serves_keep manifests v.0 place.p place.q (gates_view log_of faults_of place.g) (gates_view log_of faults_of place.h) place.served.serves);
+            keeps = subst (λ (x : RealmPass). KeepsOrNot manifests place.p x (gates_view log_of faults_of place.g) (gates_view log_of faults_of place.h)) (same_Some place.q q (sym place.q_is ∙ q_there)) (serves_keep manifests v.0 place.p place.q (gates_view log_of faults_of place.g) (gates_view log_of faults_of place.h) place.served.serves);
           }
 
       back_long : length back.passes ≡ length passes
@@ -238,7 +234,7 @@ module _ {G L : Type 0} (log_of : G → Option (List GateCall)) (faults_of : G �
       pub sixteen_back : (realm : LockView) → AreSixteen realm passes → AreSixteen realm back.passes
       sixteen_back realm are = record {
         lock = all_places (λ (p : RealmPass). p.lock ≡ realm.lock) back.passes (λ k q there. (let at = back_at k q there in lock_kept manifests at.p q at.g at.h at.keeps ∙ at_place (λ (p : RealmPass). p.lock ≡ realm.lock) passes k at.p are.lock at.there));
-        callers = map_same (λ (p : RealmPass). p.caller) passes back.passes back_long (λ k p q p_there q_there. (let at = back_at k q q_there in caller_kept manifests at.p q at.g at.h at.keeps ∙ ap (λ (p : RealmPass). p.caller) (some_same at.p p (sym at.there ∙ p_there)))) ∙ are.callers;
+        callers = map_same (λ (p : RealmPass). p.caller) passes back.passes back_long (λ k p q p_there q_there. (let at = back_at k q q_there in caller_kept manifests at.p q at.g at.h at.keeps ∙ ap (λ (p : RealmPass). p.caller) (same_Some at.p p (sym at.there ∙ p_there)))) ∙ are.callers;
       }
 
       pub gates_back : length back.gates ≡ 16
@@ -268,6 +264,6 @@ pub keeps_all : {G : Type 0} (log_of : G → Option (List GateCall)) (faults_of 
 keeps_all log_of faults_of manifests passes gates own = record { passes = refl; gates = refl; each = each } where
   each : (k : ℕ) (p q : RealmPass) (g h : _) → slice_get passes k ≡ Some p → slice_get passes k ≡ Some q → slice_get gates k ≡ Some g → slice_get gates k ≡ Some h → KeepsPass manifests p q (gates_view log_of faults_of g) (gates_view log_of faults_of h)
   each k p q g h p_there q_there g_there h_there =
-      subst (λ (x : RealmPass). KeepsPass manifests p x (gates_view log_of faults_of g) (gates_view log_of faults_of h)) (some_same p q (sym p_there ∙ q_there))
-      (subst (λ (x : _). KeepsPass manifests p p (gates_view log_of faults_of g) (gates_view log_of faults_of x)) (some_same g h (sym g_there ∙ h_there))
+      subst (λ (x : RealmPass). KeepsPass manifests p x (gates_view log_of faults_of g) (gates_view log_of faults_of h)) (same_Some p q (sym p_there ∙ q_there))
+      (subst (λ (x : _). KeepsPass manifests p p (gates_view log_of faults_of g) (gates_view log_of faults_of x)) (same_Some g h (sym g_there ∙ h_there))
       (keeps_nothing manifests p (gates_view log_of faults_of g) (at_place IsOwnPass passes k p own p_there)))

@@ -1,10 +1,9 @@
 -- Links put together.
 use Rattle.std.proofs.Common.{◌≡◌, ℕ, zero, suc, ◌+◌, ◌<◌, ◌≤◌, List, [], ◌∷◌, ◌++◌, length, refl, sym, ap, ◌∙◌, subst, append-nil, append_assoc, arith}
-use Rattle.std.proofs.lemmas.List.{length-append, length-map, length_push}
+use Rattle.std.proofs.lemmas.List.{length-append, length-map, length_push, nil_from_length}
 use Rattle.cm_session.specs.declared.served.Back.{Back}
 use Rattle.cm_session.specs.Closing.{backs_of, links_from}
 use Rattle.cm_session.specs.PoolParts.{Links}
-use Rattle.cm_session.proofs.work.Making.{no_length}
 
 -- ---- the links of one worker
 
@@ -30,7 +29,7 @@ putting_more {L} worker first links left others l capacity back back' now now' i
     }
 
 pub putting_all : {L : Type 0} (worker : ℕ) (first : List (Back L)) (links left : List L) (capacity : ℕ) (back : List (Back L)) (now : ℕ) → Putting worker first links capacity back now left → length left ≡ 0 → back ≡ first ++ backs_of worker links
-putting_all {L} worker first links left capacity back now is none = sym (append-nil back) ∙ ap (λ (x : List L). back ++ backs_of worker x) (sym (no_length left none)) ∙ is.whole
+putting_all {L} worker first links left capacity back now is none = sym (append-nil back) ∙ ap (λ (x : List L). back ++ backs_of worker x) (sym (nil_from_length left none)) ∙ is.whole
 
 -- ---- the links of all workers
 
@@ -63,4 +62,4 @@ gathering_more {L} links left others r capacity worker back back' now now' is le
     }
 
 pub gathering_all : {L : Type 0} (links left : List (Links L)) (capacity worker : ℕ) (back : List (Back L)) (now : ℕ) → Gathering links capacity worker back now left → length left ≡ 0 → back ≡ links_from 0 links
-gathering_all {L} links left capacity worker back now is none = sym (append-nil back) ∙ ap (λ (x : List (Links L)). back ++ links_from worker x) (sym (no_length left none)) ∙ is.whole
+gathering_all {L} links left capacity worker back now is none = sym (append-nil back) ∙ ap (λ (x : List (Links L)). back ++ links_from worker x) (sym (nil_from_length left none)) ∙ is.whole

@@ -1,5 +1,5 @@
 -- The links of all workers are as many as the entries with a link.
-use Rattle.std.proofs.Common.{◌≡◌, ◌≢◌, ◌⊎◌, ℕ, zero, suc, ◌+◌, ◌<◌, ◌≤◌, List, [], ◌∷◌, All, length, cond, Bool, ne_eqb, eq-eqb, Some, inl, inr, refl, sym, ap, ◌∙◌, arith}
+use Rattle.std.proofs.Common.{◌≡◌, ◌≢◌, ◌⊎◌, ℕ, zero, suc, ◌+◌, ◌<◌, ◌≤◌, List, [], ◌∷◌, All, length, cond, Bool, ne_eqb, eq-eqb, Some, inl, inr, refl, sym, ap, ◌∙◌, arith, zero-add}
 use mathlib.Core.Logic.{dite}
 use native.Mathlib.Decide.{dec_lt}
 use Rattle.std.specs.List.{slice_get}
@@ -32,9 +32,6 @@ by_this k e es this = ap (λ (b : Bool). cond b (e ∷ by_worker k es) (by_worke
 
 links_first : (e : Accepted) (es : List Accepted) → links_of (e ∷ es) ≡ links_of (e ∷ []) + links_of es
 links_first e es = count_more is_link (e ∷ []) es
-
-zero_more : (n : ℕ) → 0 + n ≡ n
-zero_more n = grind arith
 
 -- sums of two counts
 same_sum : (a a' b b' : ℕ) → a ≡ a' → b ≡ b' → a + b ≡ a' + b'
@@ -81,7 +78,7 @@ pub spread : (n : ℕ) (es : List Accepted) → All (λ (e : Accepted). e.worker
 spread n [] all = sym (none 0 n) where
   none : (k n : ℕ) → count_from k n [] ≡ 0
   none k zero = refl
-  none k (suc n) = zero_more (count_from (k + 1) n []) ∙ none (k + 1) n
+  none k (suc n) = zero-add (count_from (k + 1) n []) ∙ none (k + 1) n
 spread n (e ∷ es) all =
     let first = All-head (λ (e : Accepted). e.worker < n) e es all in
     let rest = spread n es (All-tail (λ (e : Accepted). e.worker < n) e es all) in

@@ -1,6 +1,8 @@
 -- Lemmas on the order in which a session reads and writes.
 use Rattle.std.proofs.Common.{◌≡◌, ◌≢◌, ◌⊎◌, inl, inr, ◌+◌, ℕ, suc, cond, nat_eq, Bool, true, false, true≢false, List, [], ◌∷◌, ◌++◌, length, map, Option, None, Some, refl, ap, sym, ◌∙◌, subst, append_assoc, append-nil, length-append, arith}
 use Rattle.std.proofs.lemmas.Bool.Decides.{nat_tests}
+use Rattle.std.proofs.lemmas.Bool.{cases_Bool}
+use Rattle.std.proofs.lemmas.Option.{none-some}
 use Rattle.cm_io.specs.LinesInside.{IsFirstLine, IsUnbroken, Reader}
 use Rattle.cm_io.specs.Orders.{MovesCame, InStep, Move, ends_in, gave, given_in, hung_up, joined, wrote, written_in}
 use Rattle.cm_io.specs.OrdersInside.{Pulled, PutsInOrder, ReadsUnbroken, WritesPieces}
@@ -116,14 +118,10 @@ pub record HasRead (replies : List TextBytes) (moves : List Move) (a b : Option 
   pub came : MovesCame a b (map gave pieces)
   pub in_step : InStep replies (moves ++ map gave pieces)
 
-bool_or : (b : Bool) → (b ≡ true) ⊎ (b ≡ false)
-bool_or true = inl refl
-bool_or false = inr refl
-
 pub has-read : (replies : List TextBytes) (moves : List Move) (bytes given : TextBytes) (reader : Reader) (a b : Option (List Move)) → InHand replies moves bytes reader
     → Pulled a b reader.held given → (reader.over ≡ true → b ≡ a) → (reader.over ≡ true → given ≡ []) → HasRead replies moves a b given
 has-read replies moves bytes given reader a b hand pulled still none =
-    elim (bool_or reader.over) [
+    elim (cases_Bool reader.over) [
       | inl over ↦ record {
         pieces = [];
         all = none over;
@@ -178,7 +176,7 @@ in-hand-more replies moves bytes before after a b c given line reply r w hand st
   given = reply-given replies moves bytes a b c given reply None r w hand.given;
   lines = λ not. elim how [
     | inl taken ↦
-        let before_not : before.over ≡ false = not_before (bool_or before.over) not in
+        let before_not : before.over ≡ false = not_before (cases_Bool before.over) not in
         let first : ends_in (bytes ++ given) ≡ ends_in bytes + ends_in given = ends-append bytes given in
         let there : ends_in before.held + ends_in given ≡ ends_in line + ends_in (10 ∷ after.held) = sym (ends-append before.held given) ∙ ap ends_in taken ∙ ends-append line (10 ∷ after.held) in
         let none : ends_in line ≡ 0 = unbroken-ends line unbroken in
@@ -194,9 +192,6 @@ in-hand-more replies moves bytes before after a b c given line reply r w hand st
 
 -- ---- a reply
 
-none-is-no-end : (e : Ended) → Some e ≡ None → ⊥
-none-is-no-end e is = cc
-
 -- what was put is all of the reply, or the session ends
 pub put-ordered : (end : Option Ended) (a b x y : Option (List Move)) (text : TextBytes) (p : Put) → a ≡ x → b ≡ y → PutsInOrder x y text p → (end ≡ None → p ≡ put.Done) → RepliesInOrder end a b text
 put-ordered end a b x y text p first last puts done = record {
@@ -207,8 +202,8 @@ put-ordered end a b x y text p first last puts done = record {
 
 -- the session ends, whatever was put
 pub put-last : (e : Ended) (a b x y : Option (List Move)) (text : TextBytes) (p : Put) → a ≡ x → b ≡ y → PutsInOrder x y text p → RepliesInOrder (Some e) a b text
-put-last e a b x y text p first last puts = put-ordered (Some e) a b x y text p first last puts (λ is. absurd (none-is-no-end e is))
+put-last e a b x y text p first last puts = put-ordered (Some e) a b x y text p first last puts (λ is. absurd (none-some e (sym is)))
 
 -- or nothing was
 pub put-none : (e : Ended) (o : Option (List Move)) (text : TextBytes) → RepliesInOrder (Some e) o o text
-put-none e o text = record { pieces = []; came = came-none o; whole = λ is. absurd (none-is-no-end e is) }
+put-none e o text = record { pieces = []; came = came-none o; whole = λ is. absurd (none-some e (sym is)) }

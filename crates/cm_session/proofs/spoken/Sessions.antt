@@ -6,7 +6,8 @@ use lib.Seq.{take_all}
 use Rattle.std.proofs.lemmas.List.Concat.{flat_map-append}
 use Rattle.std.proofs.lemmas.List.Elements.{All-append, All-from_recursion}
 use Rattle.std.specs.Io.KnownBytes.{Appends, IsAtEnd}
-use Rattle.std.proofs.KnownBytes.{Appends-trans, Consumes-nil, Consumes-trans}
+use Rattle.std.proofs.KnownBytes.{Appends-trans, Consumes-nil, Consumes-trans, Appends-nil}
+use Rattle.std.proofs.lemmas.Bool.{cases_Bool}
 use Rattle.cm_io.specs.Lines.{Moves, lines}
 use Rattle.cm_io.specs.LinesInside.{EndsOnce, IsFirstLine, Reader}
 use Rattle.cm_io.specs.Orders.{MovesCame, InStep, Move, given_in, hung_up}
@@ -44,18 +45,10 @@ use Rattle.cm_session.proofs.spoken.Cutting.{Cut, cut-begins, cut-end, cut-ended
 use Rattle.cm_session.proofs.spoken.Order.{HasRead, InHand, has-read, in-hand-more, in-hand-none, moves_behind, moves_with, read-came, read-given, reply-came, reply-given, reply-in_step}
 use Rattle.cm_session.proofs.spoken.Kept.{GoesOn, does_as, goes_all, goes_more, goes_none, kept_same, kept_then}
 
-bool_or : (b : Bool) → (b ≡ true) ⊎ (b ≡ false)
-bool_or true = inl refl
-bool_or false = inr refl
-
 -- ---- bytes and counts
 
-pub appends-nil : (known : Option TextBytes) → Appends known known []
-appends-nil None = tt
-appends-nil (Some xs) = sym (append-nil xs)
-
 moves-none : (source : AsSource) → Moves source source []
-moves-none source = (Consumes-nil source.left, appends-nil source.given)
+moves-none source = (Consumes-nil source.left, Appends-nil source.given)
 
 moves-trans : (a b c : AsSource) (xs ys : TextBytes) → Moves a b xs → Moves b c ys → Moves a c (xs ++ ys)
 moves-trans a b c xs ys h k = (Consumes-trans a.left b.left c.left xs ys h.0 k.0, Appends-trans a.given b.given c.given xs ys h.1 k.1)
@@ -145,7 +138,7 @@ pub record Going (manifests : Manifests) (p q : RealmPass) (g h : GatesView) (ol
 end-more : (before after : Reader) (old new : AsSource) (given : TextBytes) → (before.over ≡ true → IsAtEnd old.left) → EndsOnce before after old new given
     → after.over ≡ true → IsAtEnd new.left
 end-more before after old new given end once over =
-    elim (bool_or before.over) [
+    elim (cases_Bool before.over) [
       | inl was ↦ subst (λ (s : AsSource). IsAtEnd s.left) (sym (once.still was).2) (end was)
       | inr not ↦ once.comes not over
     ]
@@ -164,7 +157,7 @@ going-none manifests p g link reader none not = record {
   reads = tt;
   no_quit = λ k d lt. absurd (omega arith);
   goes_on = goes_none (frame_of p) p.caller p.seen;
-  wrote = appends-nil link.sink.written;
+  wrote = Appends-nil link.sink.written;
   unfailed = refl;
   had_memory = λ k d lt. absurd (omega arith);
   moves = [];
@@ -359,7 +352,7 @@ session-none manifests p g link = record {
   served = (lines [], refl);
   ended_lines = inl (whole_lines [], refl);
   follows = goes_all (frame_of p) p.caller (done_of []) p.seen p.seen (goes_none (frame_of p) p.caller p.seen);
-  wrote = inl (appends-nil link.sink.written);
+  wrote = inl (Appends-nil link.sink.written);
   had_memory = λ other. absurd (other refl);
   out_of_memory_last = none-wants [] (λ k d lt. absurd (omega arith));
   read_fault = λ is. absurd (memory-is-no-fault is);

@@ -1,6 +1,6 @@
 -- Workers made one after another, and taken apart so.
-use Rattle.std.proofs.Common.{◌≡◌, ℕ, ◌+◌, ◌≤◌, List, [], ◌∷◌, ◌++◌, All, Any, map, length, Bool, true, false, true≢false, Option, Some, refl, sym, ap, ◌∙◌, subst, append-nil, append_assoc, arith, suc}
-use Rattle.std.proofs.lemmas.List.{map-append, length-append}
+use Rattle.std.proofs.Common.{◌≡◌, ℕ, ◌+◌, ◌≤◌, List, [], ◌∷◌, ◌++◌, All, Any, map, length, Bool, true, false, true≢false, Option, Some, refl, sym, ap, ◌∙◌, subst, append-nil, append_assoc, arith, suc, add-one}
+use Rattle.std.proofs.lemmas.List.{map-append, length-append, nil_from_length}
 use Rattle.std.proofs.lemmas.List.Elements.{All-push, All-nil}
 use Rattle.std.proofs.lemmas.List.Quantifiers.{Any-push}
 use Rattle.cm_manager.specs.Contract.{RealmPass}
@@ -10,17 +10,10 @@ use Rattle.cm_session.specs.Doorway.{DoorPass}
 use Rattle.cm_session.proofs.work.Places.{any_append}
 use Rattle.cm_session.specs.PoolParts.{AreWorkerParts, PoolPartsHaveRoom, NoWorkerParts, Links, PutsPoolParts}
 
-one_more : (n : ℕ) → suc n ≡ n + 1
-one_more n = grind arith
-
 -- one item of a list goes over to another, of which it is seen as
 step_over : {A B : Type 0} (f : A → B) (done : List A) (x : A) (y : B) (left left' all : List B) → map f done ++ left ≡ all → left ≡ y ∷ left' → f x ≡ y → map f (done ++ x ∷ []) ++ left' ≡ all
 step_over f done x y left left' all is left_is here =
     ap (λ (l : List _). l ++ left') (map-append f done (x ∷ [])) ∙ append_assoc (map f done) (f x ∷ []) left' ∙ ap (λ (z : _). map f done ++ z ∷ left') here ∙ ap (λ (l : List _). map f done ++ l) (sym left_is) ∙ is
-
-pub no_length : {A : Type 0} (xs : List A) → length xs ≡ 0 → xs ≡ []
-no_length [] e = refl
-no_length (x ∷ xs) e = absurd (cc e)
 
 shorter : {A B : Type 0} (xs xs' : List A) (ys ys' : List B) (x : A) (y : B) → length xs ≡ length ys → xs ≡ x ∷ xs' → ys ≡ y ∷ ys' → length xs' ≡ length ys'
 shorter xs xs' ys ys' x y long xs_is ys_is =
@@ -29,7 +22,7 @@ shorter xs xs' ys ys' x y long xs_is ys_is =
 
 -- all went over
 all_over : {A B : Type 0} (f : A → B) (done : List A) (left all : List B) → map f done ++ left ≡ all → length left ≡ 0 → map f done ≡ all
-all_over f done left all is none = sym (append-nil (map f done)) ∙ ap (λ (l : List _). map f done ++ l) (sym (no_length left none)) ∙ is
+all_over f done left all is none = sym (append-nil (map f done)) ∙ ap (λ (l : List _). map f done ++ l) (sym (nil_from_length left none)) ∙ is
 
 some_step : {A : Type 0} (xs xs' : List A) (x : A) → xs ≡ x ∷ xs' → map Some xs ≡ Some x ∷ map Some xs'
 some_step xs xs' x is = ap (map Some) is
@@ -151,8 +144,8 @@ module _ {G L : Type 0} where
       well = λ no. (let both = puts.well no in All-push (λ (w : Worker G L). w.lost ≡ false) is.done w (is.are.well both.0) both.1);
       lost = λ yes. any_later is.done w parts.lost is.are.lost (puts.lost yes);
     };
-    room = puts.room (length ws) (subst (λ (n : ℕ). PoolPartsHaveRoom n parts) (ap (λ (x : List (Worker G L)). length x) left_is ∙ one_more (length ws)) is.room);
+    room = puts.room (length ws) (subst (λ (n : ℕ). PoolPartsHaveRoom n parts) (ap (λ (x : List (Worker G L)). length x) left_is ∙ sym (add-one (length ws))) is.room);
   }
 
   pub taking_all : (pool left : List (Worker G L)) (parts : PoolParts G L) → Taking pool left parts → length left ≡ 0 → AreWorkerParts pool parts
-  taking_all pool left parts is none = subst (λ (l : List (Worker G L)). AreWorkerParts l parts) (sym (is.whole ∙ ap (λ (l : List (Worker G L)). is.done ++ l) (no_length left none) ∙ append-nil is.done)) is.are
+  taking_all pool left parts is none = subst (λ (l : List (Worker G L)). AreWorkerParts l parts) (sym (is.whole ∙ ap (λ (l : List (Worker G L)). is.done ++ l) (nil_from_length left none) ∙ append-nil is.done)) is.are

@@ -2,9 +2,8 @@
 use Rattle.std.proofs.Common.{◌≡◌, ℕ, zero, suc, ◌<◌, List, [], ◌∷◌, ◌++◌, All, Any, map, length, get_or, Option, Some, refl, sym, ap, ◌∙◌, subst, arith}
 use Rattle.std.specs.List.{slice_get}
 use Rattle.std.proofs.lemmas.List.{length-append, length-map, get_or_append_left}
-use Rattle.std.proofs.lemmas.Option.{get_or_from_slice_get, slice_get-get_or, slice_get-map, slice_get_within}
+use Rattle.std.proofs.lemmas.Option.{get_or_from_slice_get, slice_get-get_or, slice_get-map, slice_get_within, same_Some}
 use Rattle.std.specs.Prelude.{option_map}
-use Rattle.cm_session.proofs.work.Working.{some_same}
 
 pub there_at : {A : Type 0} (xs : List A) (k : ℕ) → k < length xs → (x : A) × (slice_get xs k ≡ Some x)
 there_at [] k lt = absurd (omega (arith, lt))
@@ -34,14 +33,14 @@ as_long f g xs ys is = sym (length-map xs f) ∙ ap (λ (l : List _). length l) 
 
 -- the field of what stands there, which is some item of the other list
 pub field_at : {A B : Type 0} (f : A → Option B) (xs : List A) (ys : List B) (k : ℕ) (x : A) (y : B) → map f xs ≡ map Some ys → slice_get xs k ≡ Some x → slice_get ys k ≡ Some y → f x ≡ Some y
-field_at f xs ys k x y is there here = some_same (f x) (Some y) (sym (at_map f xs (map Some ys) k x is there) ∙ at_map Some ys (map Some ys) k y refl here)
+field_at f xs ys k x y is there here = same_Some (f x) (Some y) (sym (at_map f xs (map Some ys) k x is there) ∙ at_map Some ys (map Some ys) k y refl here)
 
 -- and the item of the other list, by the field
 pub item_at : {A B : Type 0} (f : A → Option B) (xs : List A) (ys : List B) (k : ℕ) (x : A) (y : B) → map f xs ≡ map Some ys → slice_get xs k ≡ Some x → f x ≡ Some y → slice_get ys k ≡ Some y
 item_at f xs ys k x y is there here =
     let within : k < length ys = grind (arith, slice_get_within xs k x there, as_long f Some xs ys is) in
     let t = there_at ys k within in
-    t.1 ∙ ap Some (some_same t.0 y (sym (field_at f xs ys k x t.0 is there t.1) ∙ here))
+    t.1 ∙ ap Some (same_Some t.0 y (sym (field_at f xs ys k x t.0 is there t.1) ∙ here))
 
 -- a property of what stands there, which is the same in both lists
 pub map_same : {A B : Type 0} (f : A → B) (xs ys : List A) → length ys ≡ length xs → ((k : ℕ) (x y : A) → slice_get xs k ≡ Some x → slice_get ys k ≡ Some y → f y ≡ f x) → map f ys ≡ map f xs

@@ -1,6 +1,7 @@
 -- What one worker did, and what all did.
 use Rattle.std.proofs.Common.{◌≡◌, ◌≢◌, ℕ, ◌<◌, ◌≤◌, Bool, true≢false, List, [], map, vec_capacity, Option, Some, refl, sym, ap, ◌∙◌, subst, arith}
 use Rattle.std.proofs.lemmas.List.Elements.{All-nil}
+use Rattle.std.proofs.lemmas.Option.{same_Some}
 use Rattle.cm_gate.specs.declared.asked.GateCall.{GateCall}
 use Rattle.cm_manager.specs.Contract.{RealmPass}
 use Rattle.cm_manager.specs.Gated.{gates_view}
@@ -13,15 +14,12 @@ use Rattle.cm_session.specs.Doorway.{DoorPass, links_of, sessions_of}
 use Rattle.cm_session.specs.Links.{LinkView}
 use Rattle.cm_session.specs.Serving.{IsOfLink, ServesVisits, ServedLink, none_came}
 
-pub some_same : {A : Type 0} (x y : A) → Some x ≡ Some y → x ≡ y
-some_same x y e = cc e
-
 module _ {G L : Type 0} (realm door : LockView) (workers : ℕ) (worker : Worker G L) (is : IsReadyWorker realm door workers worker) where
   pub ready_pass : (p : RealmPass) → worker.pass ≡ Some p → p.lock ≡ realm.lock
-  ready_pass p there = ap (λ (x : RealmPass). x.lock) (some_same p is.pass (sym there ∙ is.there)) ∙ is.of_realm
+  ready_pass p there = ap (λ (x : RealmPass). x.lock) (same_Some p is.pass (sym there ∙ is.there)) ∙ is.of_realm
 
   pub ready_door : (d : DoorPass) → worker.at_door ≡ Some d → d ≡ is.at_door
-  ready_door d there = some_same d is.at_door (sym there ∙ is.there_too)
+  ready_door d there = same_Some d is.at_door (sym there ∙ is.there_too)
 
 -- what a worker that is ready hands to the loop
 module _ {G L : Type 0} (realm door : LockView) (workers : ℕ) (worker : Worker G L) (is : IsReadyWorker realm door workers worker) (d : DoorPass) (there : worker.at_door ≡ Some d) where

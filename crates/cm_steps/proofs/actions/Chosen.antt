@@ -1,6 +1,6 @@
 -- A pick of an instance that is given.
-use Rattle.std.proofs.Common.{◌≡◌, ◌≢◌, ℕ, List, [], Bool, true, false, cond, Option, Some, None, IsTrue, refl, sym, ◌∙◌, ap, subst, inl, inr}
-use Rattle.std.specs.Prelude.{MatchOption, IfSome}
+use Rattle.std.proofs.Common.{◌≡◌, ◌≢◌, ℕ, List, [], Bool, true, false, cond, Option, Some, IsTrue, refl, sym, ◌∙◌, ap, subst, inl, inr}
+use Rattle.std.specs.Prelude.{IfSome}
 use Rattle.std.specs.Option.{option_map_or}
 use Rattle.cm_world.specs.declared.row.Row.{Row}
 use Rattle.cm_world.specs.declared.action.Work.{Work}
@@ -23,14 +23,6 @@ use Rattle.cm_steps.specs.declared.nostep.NoStep.{NoStep}
 use Rattle.cm_steps.specs.declared.nostep.NoStep.TheVariants.{Busy, HistoryFull, Memory}
 use Rattle.cm_steps.specs.declared.replies.picking.PickAnswer.{PickAnswer}
 use Rattle.cm_steps.specs.declared.replies.picking.PickAnswer.TheVariants as pick
-
--- of nothing and of something
-pub when_none : {A : Type 0} (P : Type 0) (Q : A → Type 0) (o : Option A) → o ≡ None → MatchOption o P Q → P
-when_none P Q None e h = h
-when_none P Q (Some x) e h = absurd (cc e)
-
-pub when_some : {A : Type 0} (P : Type 0) (Q : A → Type 0) (o : Option A) (x : A) → o ≡ Some x → MatchOption o P Q → Q x
-when_some P Q o x e h = subst (λ o. MatchOption o P Q) e h
 
 pub this_some : {A : Type 0} (P : A → Type 0) (o : Option A) (x : A) → o ≡ Some x → IfSome o P → P x
 this_some P o x e h = subst (λ o. IfSome o P) e h

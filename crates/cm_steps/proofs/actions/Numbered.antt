@@ -1,5 +1,5 @@
 -- Actions that are numbered from 1 on stand at the places below their numbers.
-use Rattle.std.proofs.Common.{◌≡◌, ℕ, zero, suc, ◌+◌, ◌-◌, ◌<◌, ◌≤◌, ◌==◌, List, [], ◌∷◌, length, Bool, true, false, cond, Some, None, find, refl, sym, ap, ◌∙◌, arith, get_or, le_of_suc-le-suc, zero-lt-suc, suc-le-suc}
+use Rattle.std.proofs.Common.{◌≡◌, ℕ, zero, suc, ◌+◌, ◌-◌, ◌<◌, ◌≤◌, ◌==◌, List, [], ◌∷◌, length, Bool, true, false, cond, Some, None, find, refl, sym, ap, ◌∙◌, arith, get_or, le_of_suc-le-suc, zero-lt-suc, suc-le-suc, ne_eqb, le_of_lt}
 use Rattle.std.specs.Prelude.{nat_lt}
 use Rattle.std.specs.List.{position, position_or_len}
 use Rattle.std.specs.Cmp.{unsigned_Decides}
@@ -8,7 +8,7 @@ use Rattle.std.proofs.lemmas.List.Sums.{position_or_len_is}
 use Rattle.std.proofs.lemmas.List.Quantifiers.{position-Some}
 use Rattle.cm_world.specs.declared.action.Act.{Act}
 use Rattle.cm_laws.specs.Tasks.{IsNumbered}
-use Rattle.cm_table.proofs.lists.BinarySearch.{not_same, lt_le, find-nth, nth-some}
+use Rattle.cm_table.proofs.lists.BinarySearch.{find-nth, nth-some}
 
 -- ---- the first item that passes
 
@@ -21,7 +21,7 @@ no_place p (x ∷ xs) none =
 
 pub one_place : {A : Type 0} (p : A → Bool) (xs : List A) (i : ℕ) (d : A) → i < length xs → p (get_or xs i d) ≡ true → ((k : ℕ) → k < i → p (get_or xs k d) ≡ false) → position p xs ≡ Some i
 one_place p xs i d lt hit others =
-    let e : position_or_len p xs ≡ i = position_or_len_is p xs i d (lt_le i (length xs) lt) others (λ h. hit) in
+    let e : position_or_len p xs ≡ i = position_or_len_is p xs i d (le_of_lt lt) others (λ h. hit) in
     ap (λ n. cond (nat_lt n (length xs)) (Some n) None) e ∙ ap (λ b. cond b (Some i) None) (lt-ltb i (length xs) lt)
 
 pub find_none : {A : Type 0} (p : A → Bool) (xs : List A) → ((k : ℕ) (d : A) → k < length xs → p (get_or xs k d) ≡ false) → find p xs ≡ None
@@ -32,7 +32,7 @@ find_none p (x ∷ xs) none =
 pub find_some : {A : Type 0} (p : A → Bool) (xs : List A) (i : ℕ) (d : A) → position p xs ≡ Some i → find p xs ≡ Some (get_or xs i d)
 find_some p xs i d e =
     let at = position-Some p xs i d e in
-    find-nth p xs i d (lt_le i (length xs) at.0) at.2 (λ lt. at.1) ∙ nth-some xs i d at.0
+    find-nth p xs i d (le_of_lt at.0) at.2 (λ lt. at.1) ∙ nth-some xs i d at.0
 
 -- ---- numbers
 
@@ -47,7 +47,7 @@ number_at n (x ∷ xs) (suc k) d all lt = number_at (n + 1) xs k d all.1 (le_of_
 
 pub others_there : (xs : List Act) (a : ℕ) → IsNumbered 1 xs → ((k : ℕ) → k < length xs → a ≡ suc k → ⊥) → (k : ℕ) (d : Act) → k < length xs → ((get_or xs k d).action == a) ≡ false
 others_there xs a all differ k d lt =
-    not_same (get_or xs k d).action a (λ e. differ k lt (sym e ∙ number_at 1 xs k d all lt ∙ from_one k)) where
+    ne_eqb (get_or xs k d).action a (λ e. differ k lt (sym e ∙ number_at 1 xs k d all lt ∙ from_one k)) where
       from_one : (j : ℕ) → 1 + j ≡ suc j
       from_one j = omega arith
 
@@ -65,7 +65,7 @@ place_of (x ∷ xs) a all some le =
     let lt : a - 1 < length (x ∷ xs) = inside a (length (x ∷ xs)) some le in
     one_place (λ (y : Act). y.action == a) (x ∷ xs) (a - 1) x lt
     ((unsigned_Decides (get_or (x ∷ xs) (a - 1) x).action a).1 (number_at 1 (x ∷ xs) (a - 1) x all lt ∙ back a some))
-    (λ k less. not_same (get_or (x ∷ xs) k x).action a (λ e. lower a k some less (sym e ∙ number_at 1 (x ∷ xs) k x all (within k (a - 1) (length (x ∷ xs)) less lt)))) where
+    (λ k less. ne_eqb (get_or (x ∷ xs) k x).action a (λ e. lower a k some less (sym e ∙ number_at 1 (x ∷ xs) k x all (within k (a - 1) (length (x ∷ xs)) less lt)))) where
       inside : (b n : ℕ) → (b ≡ 0 → ⊥) → b ≤ n → b - 1 < n
       inside b n h g = omega arith
 

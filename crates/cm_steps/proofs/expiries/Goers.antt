@@ -9,7 +9,7 @@ use Rattle.cm_world.specs.Marks.{is_dynamic}
 use Rattle.cm_world.specs.Expiring.{runs_once, goes_with, expired}
 use Rattle.cm_world.specs.Sound.{IsOrderly}
 use Rattle.cm_world.proofs.trees.Finding.{none_some, some_same, row_of-inc}
-use Rattle.std.specs.Cmp.{unsigned_Decides}
+use Rattle.std.specs.Cmp.{unsigned_Decides, second_so}
 use Rattle.cm_cache.specs.Beside.{goes_some}
 use Rattle.cm_walk.proofs.descents.Behind.{next_of, IsNext, is_next}
 use Rattle.cm_steps.specs.Expiring.{doomed_if_dynamic}
@@ -117,16 +117,12 @@ children_go rows i unclosed once =
     (λ r. sym (ap (λ b. b && not r.doomed) (open_goes rows i false unclosed once r))) rows
 
 -- and of one that does, the row itself
-second_true : (a b : Bool) → (a && b) ≡ true → b ≡ true
-second_true true b is = is
-second_true false b is = absurd (true≢false (sym is))
-
 itself_by : (o : Option Row) (rows : List Row) (i : ℕ) → row_of rows i ≡ o → is_closed rows i ≡ false → runs_once rows i ≡ true → option_map_or (λ r. is_dynamic r && not r.doomed) o false ≡ true → true ≡ goes_some rows i
 itself_by None rows i is unclosed once goes = absurd (true≢false (sym goes))
 itself_by (Some r) rows i is unclosed once goes =
     let own : goes_with rows i r ≡ true = open_goes rows i true unclosed once r ∙ (unsigned_Decides r.inc i).1 (row_of-inc rows i r is) in
     sym (any_found (λ s. goes_with rows i s && not s.doomed) rows i r is
-    (ap (λ t. t && not r.doomed) own ∙ second_true (is_dynamic r) (not r.doomed) goes))
+    (ap (λ t. t && not r.doomed) own ∙ second_so (is_dynamic r) (not r.doomed) goes))
 
 once_by : (t : Bool) (rows : List Row) (next i : ℕ) → may_go rows i ≡ t → IsOrderly rows next → is_closed rows i ≡ false → runs_once rows i ≡ true → t ≡ goes_some rows i
 once_by true rows next i may orderly unclosed once = itself_by (row_of rows i) rows i refl unclosed once may

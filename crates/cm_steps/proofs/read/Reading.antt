@@ -19,7 +19,6 @@ use Rattle.cm_world.specs.Work.{base_of, eager_of, runner_of, program_work, work
 use Rattle.cm_world.specs.Reports.{look_at, show_reply}
 use Rattle.cm_world.specs.AfterInside.{moves}
 use Rattle.cm_world.proofs.trees.Finding.{some_same, row_of-inc}
-pub use Rattle.cm_walk.proofs.routes.StepsAlong.{if_ok}
 use Rattle.cm_steps.specs.Answers.{AnswersBegin, AnswersIdle}
 use Rattle.cm_steps.specs.Eager.{eager_by, eager_kids, above_url}
 use Rattle.cm_steps.specs.declared.replies.beginning.BeginAnswer.{BeginAnswer}

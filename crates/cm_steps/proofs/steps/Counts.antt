@@ -3,6 +3,7 @@ use Rattle.std.proofs.Common.{◌≡◌, ℕ, ◌+◌, ◌≤◌, List, [], ◌�
 use Rattle.std.proofs.lemmas.List.Sums.{sum_by_push}
 use Rattle.std.specs.Option.{option_map_or}
 use Rattle.std.specs.List.{count_by, list_any}
+use Rattle.std.proofs.lemmas.Bool.{and_from}
 use Rattle.cm_decl.specs.declared.decl.Decl.{Decl}
 use Rattle.cm_world.specs.declared.action.Act.{Act}
 use Rattle.cm_world.specs.declared.action.ActKind.{ActKind}
@@ -93,15 +94,10 @@ resolves Resolve url d e = refl
 resolves Start url d e = absurd (true≢false (sym e))
 resolves Stop url d e = absurd (true≢false (sym e))
 
-both : (a b : Bool) → a ≡ true → b ≡ true → (a && b) ≡ true
-both true true x y = refl
-both true false x y = y
-both false b x y = absurd (true≢false (sym x))
-
 pub resolve_less : (acts : List Act) (caller a : ℕ) (url : List ℕ) (d : Decl) (o : Outcome) → MayEnd acts caller a (finish.Resolved url d) → count_by is_open_resolve (ended a o acts) + 1 ≡ count_by is_open_resolve acts
 resolve_less acts caller a url d o may =
     count_less (λ x. x.action == a) is_open_resolve (put_outcome o) acts may.act may.there
-    (both (same_act may.act.kind Resolve) (is_open may.act) (resolves may.act.kind url d may.fitting) (ap is_none may.pending))
+    (and_from (same_act may.act.kind Resolve) (is_open may.act) (resolves may.act.kind url d may.fitting) (ap is_none may.pending))
     (closed_by (same_act may.act.kind Resolve)) where
       closed_by : (b : Bool) → (b && false) ≡ false
       closed_by true = refl

@@ -1,6 +1,7 @@
 -- What is read up the tree, in two trees in which rows stand alike, and where one row is marked.
-use Rattle.std.proofs.Common.{◌≡◌, ℕ, zero, suc, ◌<◌, List, [], ◌∷◌, length, Bool, true, false, cond, ◌||◌, ◌==◌, true≢false, Option, Some, None, refl, sym, ◌∙◌, ap, subst, arith, inl, inr, ◌⊎◌}
+use Rattle.std.proofs.Common.{◌≡◌, ℕ, zero, suc, ◌<◌, List, [], ◌∷◌, length, Bool, true, false, cond, ◌||◌, ◌==◌, true≢false, Option, Some, None, refl, sym, ◌∙◌, ap, subst, arith, inl, inr, ◌⊎◌, ne_eqb}
 use Rattle.std.specs.Cmp.{unsigned_Decides}
+use Rattle.std.proofs.Math.Bool.{or-true}
 use Rattle.cm_world.specs.declared.row.Row.{Row}
 use Rattle.cm_world.specs.End.{changed}
 use Rattle.cm_world.specs.Rows.{row_of, is_below, at_or_above, some_above}
@@ -9,7 +10,6 @@ use Rattle.cm_world.proofs.trees.Finding.{none_some, row_of-inc}
 use Rattle.cm_world.proofs.trees.Climbing.{some_above-step, above_root, fewer}
 use Rattle.cm_table.proofs.tree.Rows.{row_of-changed, Was, was_before, Becomes, becomes_after}
 use Rattle.cm_table.proofs.tree.Leaves.{below_itself}
-use Rattle.cm_table.proofs.lists.BinarySearch.{not_same}
 
 -- ---- a row that doesn't live
 
@@ -86,7 +86,7 @@ unmarked_changed P f rows next x o on keeps up same =
 
 other_by : (t : Bool) (f : Row → Row) (i j : ℕ) (x : Row) (xs : List Row) → ((r : Row) → (f r).inc ≡ r.inc) → (j ≡ i → ⊥) → (x.inc == i) ≡ t → row_of (changed i f xs) j ≡ row_of xs j → row_of (cond t (f x ∷ xs) (x ∷ changed i f xs)) j ≡ row_of (x ∷ xs) j
 other_by true f i j x xs keeps differ same later =
-    let off : (x.inc == j) ≡ false = not_same x.inc j (λ e. differ (sym e ∙ (unsigned_Decides x.inc i).0 same)) in
+    let off : (x.inc == j) ≡ false = ne_eqb x.inc j (λ e. differ (sym e ∙ (unsigned_Decides x.inc i).0 same)) in
     ap (λ n. cond (n == j) (Some (f x)) (row_of xs j)) (keeps x) ∙ ap (λ t. cond t (Some (f x)) (row_of xs j)) off ∙ sym (ap (λ t. cond t (Some x) (row_of xs j)) off)
 other_by false f i j x xs keeps differ same later = ap (cond (x.inc == j) (Some x)) later
 
@@ -97,10 +97,6 @@ row_of-other f i j (x ∷ xs) keeps differ = other_by (x.inc == i) f i j x xs ke
 shuffle : (r c b : Bool) → (r || (c || b)) ≡ ((r || c) || (false || b))
 shuffle true c b = refl
 shuffle false c b = refl
-
-or_true : (a : Bool) → true ≡ (a || true)
-or_true true = refl
-or_true false = refl
 
 module _ (P : Row → Bool) (f : Row → Row) (rows : List Row) (next x : ℕ) (o : IsOrderly rows next) (on : IsOrderly (changed x f rows) next) (keeps : (r : Row) → (f r).inc ≡ r.inc) (hits : (r : Row) → P (f r) ≡ true) where
   abbrev after : List Row
@@ -121,7 +117,7 @@ module _ (P : Row → Bool) (f : Row → Row) (rows : List Row) (next x : ℕ) (
       let own : is_below rows x i ≡ true = subst (λ n. is_below rows n i ≡ true) is (below_itself rows next i r o here) in
       some_above-step P after next i (f r) on there
       ∙ ap (λ b. b || at_or_above (length after) P after (f r).parent) (hits r)
-      ∙ or_true (some_above P rows i) ∙ sym (ap (λ b. some_above P rows i || b) own)
+      ∙ sym (or-true (some_above P rows i)) ∙ sym (ap (λ b. some_above P rows i || b) own)
   marked_by i r false same here later =
       let differ : i ≡ x → ⊥ = λ e. true≢false (sym ((unsigned_Decides i x).1 e) ∙ same) in
       let there : row_of after i ≡ Some r = row_of-other f x i rows keeps differ ∙ here in

@@ -1,5 +1,5 @@
 -- The flags of slots, one by one, and what flagging one of them leaves.
-use Rattle.std.proofs.Common.{◌≡◌, ℕ, suc, ◌<◌, List, [], ◌∷◌, ◌++◌, length, map, filter, Bool, true, false, cond, not, ◌==◌, true≢false, Option, Some, None, refl, sym, ◌∙◌, ap, subst, ◌⊎◌, inl, inr, arith}
+use Rattle.std.proofs.Common.{◌≡◌, ℕ, suc, ◌<◌, List, [], ◌∷◌, ◌++◌, length, map, filter, Bool, true, false, cond, not, ◌==◌, true≢false, Option, Some, None, refl, sym, ◌∙◌, ap, subst, ◌⊎◌, inl, inr, arith, ne_eqb}
 use Rattle.std.specs.Prelude.{option_map}
 use Rattle.std.specs.Option.{option_map_or}
 use Rattle.std.specs.Cmp.{unsigned_Decides}
@@ -16,7 +16,7 @@ use Rattle.cm_table.specs.Flags.{flag_in, with_flag, no_flags, flag_of}
 use Rattle.cm_table.specs.Keys.{EachOf, EachItem}
 use Rattle.cm_table.specs.Marking.{flagged, unmarked, open_count, OthersAreKept, AreIndexed}
 use Rattle.cm_table.specs.Slots.{inc_of, slot_of, rows_in, IsIndexed}
-use Rattle.cm_table.proofs.lists.BinarySearch.{not_same, some_prefix, none_append}
+use Rattle.cm_table.proofs.lists.BinarySearch.{some_prefix, none_append}
 use Rattle.cm_table.proofs.slots.Rowed.{row_of-slots}
 
 -- ---- a flag that is put down
@@ -97,7 +97,7 @@ flags_edited k f x j (s ∷ ss) inc same =
 
 left_by : (t : Bool) (k : MarkKind) (x j : ℕ) (s : Slot) (ss zs : List Slot) → (s.row.inc == x) ≡ t → (j ≡ x → ⊥) → flag_of k zs j ≡ flag_of k ss j → flag_of k (cond t ss (s ∷ zs)) j ≡ flag_of k (s ∷ ss) j
 left_by true k x j s ss zs own differ later =
-    let off : (s.row.inc == j) ≡ false = not_same s.row.inc j (λ e. differ (sym e ∙ (unsigned_Decides s.row.inc x).0 own)) in
+    let off : (s.row.inc == j) ≡ false = ne_eqb s.row.inc j (λ e. differ (sym e ∙ (unsigned_Decides s.row.inc x).0 own)) in
     sym (flag_at false k s ss j off)
 left_by false k x j s ss zs own differ later = step_same k s s ss zs j refl refl later
 

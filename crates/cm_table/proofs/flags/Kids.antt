@@ -1,9 +1,8 @@
 -- The children of a row that aren't flagged, one behind another.
 use Rattle.std.proofs.Common.{◌≡◌, ℕ, ◌<◌, ◌≤◌, ◌+◌, ◌-◌, List, [], ◌∷◌, Bool, true, false, cond, ◌&&◌, ◌==◌, nat_eq, nat_lt, true≢false, Option, Some, None, IsTrue, find, option_map, refl, sym, ◌∙◌, ap, subst, inl, inr, ◌⊎◌, arith}
 use Rattle.std.specs.Option.{option_eq}
-use Rattle.std.specs.Cmp.{unsigned_Decides}
+use Rattle.std.specs.Cmp.{unsigned_Decides, first_so, second_so}
 use Rattle.std.proofs.lemmas.Bool.{lt-ltb, ltb-true, and_from}
-use Rattle.cm_decl.proofs.Sameness.{and_first, and_second}
 use Rattle.cm_world.specs.declared.row.Row.{Row}
 use Rattle.cm_world.specs.Rows.{row_of, has_parent}
 use Rattle.cm_world.specs.RowsInside.{is_behind, child_behind}
@@ -81,9 +80,9 @@ next_kid_by rows next p c after (Some z) orderly found e =
       child = record {
         row = z;
         lives = subst (λ i. row_of rows i ≡ Some z) own (find-lives (λ y. has_parent p y && is_behind after y.inc) rows next z orderly.increasing found);
-        under = parent_is p z.parent (and_first (has_parent p z) (is_behind after z.inc) passes);
+        under = parent_is p z.parent (first_so (has_parent p z) (is_behind after z.inc) passes);
       };
-      behind = subst (λ i. IsTrue (is_behind after i)) own (and_second (has_parent p z) (is_behind after z.inc) passes);
+      behind = subst (λ i. IsTrue (is_behind after i)) own (second_so (has_parent p z) (is_behind after z.inc) passes);
       least = λ i r here up later. subst (λ n. n ≤ i) own (find_least (λ y. has_parent p y && is_behind after y.inc) rows next i z r orderly.increasing found here (kid_passes rows p i after r here up later));
     }
 

@@ -1,5 +1,5 @@
 -- What a mark leaves, once it has come to its end.
-use Rattle.std.proofs.Common.{◌≡◌, ℕ, zero, suc, ◌<◌, List, length, Bool, true, false, ◌||◌, ◌==◌, true≢false, Option, Some, None, refl, sym, ◌∙◌, ap, subst, ◌⊎◌, inl, inr, arith}
+use Rattle.std.proofs.Common.{◌≡◌, ℕ, zero, suc, ◌<◌, List, length, Bool, true, false, ◌||◌, ◌==◌, true≢false, Option, Some, None, refl, sym, ◌∙◌, ap, subst, ◌⊎◌, inl, inr, arith, ne_eqb}
 use Rattle.std.specs.Cmp.{unsigned_Decides, both_ways}
 use Rattle.std.proofs.lemmas.Bool.{or_left, or_right}
 use Rattle.cm_world.specs.declared.row.Row.{Row}
@@ -14,7 +14,6 @@ use Rattle.cm_table.specs.Marking.{IsDown, IsOpenWithin, GoesOn, GoesAnyway, Tur
 use Rattle.cm_table.specs.Slots.{slot_of, rows_in}
 use Rattle.cm_table.proofs.tree.Rows.{some_is, is_some_by}
 use Rattle.cm_table.proofs.tree.Leaves.{below_itself}
-use Rattle.cm_table.proofs.lists.BinarySearch.{not_same}
 use Rattle.cm_table.proofs.slots.Rowed.{row_of-slots}
 use Rattle.cm_table.proofs.flags.Flagging.{row_of-slot, rows_alike}
 
@@ -35,7 +34,7 @@ below_lives rows top i e = above_lives (length rows) (λ r. r.inc == top) rows i
 none_by : (n top i : ℕ) (rows : List Row) (o : Option Row) → row_of rows top ≡ None → row_of rows i ≡ o → ((u : Option ℕ) → at_or_above n (λ r. r.inc == top) rows u ≡ false) → elim o as (λ _. Bool) [ None ↦ false | Some r ↦ (r.inc == top) || at_or_above n (λ s. s.inc == top) rows r.parent ] ≡ false
 none_by n top i rows None none e later = refl
 none_by n top i rows (Some r) none e later =
-    let other : (r.inc == top) ≡ false = not_same r.inc top (λ same. none_some r (sym none ∙ ap (row_of rows) (sym same ∙ row_of-inc rows i r e) ∙ e)) in
+    let other : (r.inc == top) ≡ false = ne_eqb r.inc top (λ same. none_some r (sym none ∙ ap (row_of rows) (sym same ∙ row_of-inc rows i r e) ∙ e)) in
     rw other (later r.parent)
 
 -- nothing is at or below what doesn't live

@@ -1,5 +1,5 @@
 -- A mark on its way down.
-use Rattle.std.proofs.Common.{◌≡◌, ℕ, ◌<◌, List, length, map, Bool, true, false, ◌||◌, ◌==◌, true≢false, Option, Some, None, refl, sym, ◌∙◌, ap, subst, ◌⊎◌, inl, inr, ⊎_elim, arith}
+use Rattle.std.proofs.Common.{◌≡◌, ℕ, ◌<◌, List, length, map, Bool, true, false, ◌||◌, ◌==◌, true≢false, Option, Some, None, refl, sym, ◌∙◌, ap, subst, ◌⊎◌, inl, inr, ⊎_elim, arith, ne_eqb}
 use Rattle.std.specs.Prelude.{option_and_then}
 use Rattle.std.proofs.lemmas.Bool.{or_left, or_right}
 use Rattle.cm_world.specs.declared.row.Row.{Row}
@@ -16,7 +16,6 @@ use Rattle.cm_table.specs.Marking.{flagged, unmarked, IsDown, IsOpenWithin, IsOp
 use Rattle.cm_table.specs.Slots.{slot_of, rows_in}
 use Rattle.cm_table.proofs.tree.Rows.{some_is, is_some_by}
 use Rattle.cm_table.proofs.tree.Removing.{within_child}
-use Rattle.cm_table.proofs.lists.BinarySearch.{not_same}
 use Rattle.cm_table.proofs.flags.Flagging.{slot_of-row, flag-slot, rows_alike, same-flagged, others-flagged, flag-kept, flag-only, flag-hit, fewer-flagged}
 
 pub as_child : (k : MarkKind) (ss : List Slot) (p i : ℕ) → IsOpenChild k ss p i → IsChildOf (rows_in ss) p i
@@ -75,7 +74,7 @@ pub goes_on : (k : MarkKind) (ss zs : List Slot) (next top b : ℕ) → IsOrderl
 goes_on k ss zs next top b o down bottom differ is =
     let rows : rows_in zs ≡ rows_in ss = rows_alike ss zs (ap (map unmarked) is ∙ same-flagged k b ss) in
     let q : (r : Row) × (row_of (rows_in ss) b ≡ Some r) = some_is (row_of (rows_in ss) b) bottom.within.lives in
-    let other : (q.0.inc == top) ≡ false = not_same q.0.inc top (λ e. differ (sym (row_of-inc (rows_in ss) b q.0 q.1) ∙ e)) in
+    let other : (q.0.inc == top) ≡ false = ne_eqb q.0.inc top (λ e. differ (sym (row_of-inc (rows_in ss) b q.0 q.1) ∙ e)) in
     let above = left_by (q.0.inc == top) (at_or_above (length (rows_in ss)) (λ s. s.inc == top) (rows_in ss) q.0.parent) other (sym (some_above-step (λ s. s.inc == top) (rows_in ss) next b q.0 o q.1) ∙ bottom.within.below) in
     subst (λ u. GoesOn k zs top u) (sym (ap (λ l. option_and_then (λ r. r.parent) (row_of l b)) rows ∙ ap (option_and_then (λ r. r.parent)) q.1))
     (goes_by k ss next top b q.0 q.0.parent o down bottom q.1 refl above zs is)

@@ -1,12 +1,12 @@
 -- The children of a row, and the child of a name, behind each change of the rows.
-use Rattle.std.proofs.Common.{◌≡◌, ℕ, ◌<◌, ◌≤◌, List, [], ◌∷◌, ◌++◌, map, Bool, true, false, cond, ◌==◌, ◌&&◌, not, nat_eq, true≢false, Option, Some, None, IsSome, is_some, IsTrue, find, filter, refl, sym, ap, ◌∙◌, subst, arith}
+use Rattle.std.proofs.Common.{◌≡◌, ℕ, ◌<◌, ◌≤◌, List, [], ◌∷◌, ◌++◌, map, Bool, true, false, cond, ◌==◌, ◌&&◌, not, nat_eq, true≢false, Option, Some, None, IsSome, is_some, IsTrue, find, filter, refl, sym, ap, ◌∙◌, subst, arith, ne_eqb, ne_of_lt}
 use Rattle.std.specs.Prelude.{option_map}
 use Rattle.std.specs.Option.{option_eq}
-use Rattle.std.specs.Cmp.{unsigned_Decides}
+use Rattle.std.specs.Cmp.{unsigned_Decides, first_so, second_so}
 use Rattle.std.proofs.lemmas.Bool.{not-true}
 use Rattle.cm_names.specs.declared.child.ChildName.{ChildName}
 use Rattle.cm_decl.specs.Same.{same_child}
-use Rattle.cm_decl.proofs.Sameness.{and_first, and_second, same_child_exact}
+use Rattle.cm_decl.proofs.Sameness.{same_child_exact}
 use Rattle.cm_world.specs.declared.row.Row.{Row}
 use Rattle.cm_world.specs.Edits.{drop_first}
 use Rattle.cm_world.specs.Rows.{row_of, has_parent, has_name, child_of}
@@ -20,7 +20,7 @@ use Rattle.cm_table.specs.Links.{unless}
 use Rattle.cm_table.specs.Reading.{is_there}
 use Rattle.cm_table.proofs.tree.Rows.{some_is, is_some_by, lives_below}
 use Rattle.cm_table.proofs.tree.Leaves.{without, was_there, not_taken, increasing_without}
-use Rattle.cm_table.proofs.lists.BinarySearch.{no_some, not_same, lower_differs}
+use Rattle.cm_table.proofs.lists.BinarySearch.{no_some}
 
 abbrev pub incs : List Row → List ℕ
 incs rows = map (λ r. r.inc) rows
@@ -81,7 +81,7 @@ drop_high_by false i x l miss later = later
 drop_high : (q : Row → Bool) (i : ℕ) (xs : List Row) → ((j : ℕ) → IsSome (row_of xs j) → i < j) → drop_first (λ k. k == i) (incs (filter q xs)) ≡ incs (filter q xs)
 drop_high q i [] high = refl
 drop_high q i (x ∷ xs) high =
-    drop_high_by (q x) i x (filter q xs) (not_same x.inc i (λ e. lower_differs i x.inc (high x.inc (ap is_some (own_row x xs))) (sym e)))
+    drop_high_by (q x) i x (filter q xs) (ne_eqb x.inc i (λ e. ne_of_lt (high x.inc (ap is_some (own_row x xs))) (sym e)))
     (drop_high q i xs (λ j h. high j (later_some (x.inc == j) x (row_of xs j) h))) where
       own_row : (x : Row) (xs : List Row) → row_of (x ∷ xs) x.inc ≡ Some x
       own_row x xs = rw ((unsigned_Decides x.inc x.inc).1 refl) refl
@@ -144,12 +144,12 @@ pub record IsNamed (rows : List Row) (p : ℕ) (c : ChildName) (r : Row) : Type 
 pub named_row : (rows : List Row) (next p : ℕ) (c : ChildName) (r : Row) → IncarnationsIncrease next rows → find (is_there p c) rows ≡ Some r → IsNamed rows p c r
 named_row rows next p c r increasing e =
     let passes : IsTrue (is_there p c r) = find-passes (is_there p c) rows r e in
-    let both : IsTrue (has_parent p r && has_name c r) = and_first (has_parent p r && has_name c r) (not r.doomed) passes in
+    let both : IsTrue (has_parent p r && has_name c r) = first_so (has_parent p r && has_name c r) (not r.doomed) passes in
     record {
       lives = find-lives (is_there p c) rows next r increasing e;
-      under = parent_is p r.parent (and_first (has_parent p r) (has_name c r) both);
-      named = name_by c r.name (and_second (has_parent p r) (has_name c r) both);
-      alive = not-true r.doomed (and_second (has_parent p r && has_name c r) (not r.doomed) passes);
+      under = parent_is p r.parent (first_so (has_parent p r) (has_name c r) both);
+      named = name_by c r.name (second_so (has_parent p r) (has_name c r) both);
+      alive = not-true r.doomed (second_so (has_parent p r && has_name c r) (not r.doomed) passes);
     }
 
 -- no second one has the name
@@ -245,14 +245,14 @@ child_right j c (x ∷ xs) ys none =
 -- no row has a parent from the next incarnation on, nor one that doesn't live
 pub has_by : (j : ℕ) (r : Row) (o : Option ℕ) → r.parent ≡ o → (r.parent ≡ Some j → ⊥) → has_parent j r ≡ false
 has_by j r None e other = ap (λ p. option_eq nat_eq p (Some j)) e
-has_by j r (Some q) e other = ap (λ p. option_eq nat_eq p (Some j)) e ∙ not_same q j (λ same. other (e ∙ ap Some same))
+has_by j r (Some q) e other = ap (λ p. option_eq nat_eq p (Some j)) e ∙ ne_eqb q j (λ same. other (e ∙ ap Some same))
 
 pub own_row : (x : Row) (xs : List Row) → row_of (x ∷ xs) x.inc ≡ Some x
 own_row x xs = ap (λ t. cond t (Some x) (row_of xs x.inc)) ((unsigned_Decides x.inc x.inc).1 refl)
 
 behind : (x r : Row) (xs : List Row) → ((j : ℕ) → IsSome (row_of xs j) → x.inc < j) → row_of xs r.inc ≡ Some r → row_of (x ∷ xs) r.inc ≡ Some r
 behind x r xs up here =
-    ap (λ t. cond t (Some x) (row_of xs r.inc)) (not_same x.inc r.inc (lower_differs x.inc r.inc (up r.inc (is_some_by (row_of xs r.inc) r here)))) ∙ here
+    ap (λ t. cond t (Some x) (row_of xs r.inc)) (ne_eqb x.inc r.inc (ne_of_lt (up r.inc (is_some_by (row_of xs r.inc) r here)))) ∙ here
 
 pub each_row : (P : Row → Type 0) (next : ℕ) (xs : List Row) → IncarnationsIncrease next xs → ((r : Row) → row_of xs r.inc ≡ Some r → P r) → EachItem P xs
 each_row P next [] increasing all = tt

@@ -1,5 +1,5 @@
 -- The indexes of slots follow each change of the rows.
-use Rattle.std.proofs.Common.{◌≡◌, ℕ, suc, ◌<◌, ◌≤◌, ◌+◌, List, [], ◌∷◌, ◌++◌, length, Bool, true, false, cond, ◌==◌, ◌&&◌, not, nat_eq, true≢false, Option, Some, None, find, filter, refl, sym, ap, ◌∙◌, subst, arith}
+use Rattle.std.proofs.Common.{◌≡◌, ℕ, suc, ◌<◌, ◌≤◌, ◌+◌, List, [], ◌∷◌, ◌++◌, length, Bool, true, false, cond, ◌==◌, ◌&&◌, not, nat_eq, true≢false, Option, Some, None, find, filter, refl, sym, ap, ◌∙◌, subst, arith, ne_eqb, ne_of_lt}
 use Rattle.std.specs.Prelude.{option_map}
 use Rattle.std.specs.Option.{option_eq}
 use Rattle.std.specs.Cmp.{unsigned_Decides}
@@ -22,7 +22,6 @@ use Rattle.cm_table.specs.Numbering.{IsBare}
 use Rattle.cm_table.specs.Reading.{is_there}
 use Rattle.cm_table.proofs.tree.Adding.{none_mapped}
 use Rattle.cm_table.proofs.tree.Leaves.{without}
-use Rattle.cm_table.proofs.lists.BinarySearch.{not_same, lower_differs}
 use Rattle.cm_table.proofs.lists.Editing.{edited, dropped}
 use Rattle.cm_table.proofs.lists.EachItem.{each_map, each_append, each_edited, each_dropped, each_zip, each_of_edited}
 use Rattle.cm_table.proofs.slots.Rowed.{slots_rise}
@@ -140,7 +139,7 @@ kids_pushed rows p r under =
     ap incs (filter_append (has_parent p) rows (r ∷ []) ∙ ap (λ b. filter (has_parent p) rows ++ cond b (r ∷ []) []) (own_parent p r under)) ∙ incs_append (filter (has_parent p) rows) (r ∷ [])
 
 other_parent : (p j : ℕ) (r : Row) → r.parent ≡ Some p → (j ≡ p → ⊥) → NoneHas j (r ∷ [])
-other_parent p j r under differ = (ap (λ o. option_eq nat_eq o (Some j)) under ∙ not_same p j (λ e. differ (sym e)), tt)
+other_parent p j r under differ = (ap (λ o. option_eq nat_eq o (Some j)) under ∙ ne_eqb p j (λ e. differ (sym e)), tt)
 
 linked_by : (b : Bool) (rows : List Row) (next p : ℕ) (name : ChildName) (r : Row) (s t : Slot) → (s.row.inc == p) ≡ b → r.inc ≡ next → IsLast p name r → child_of rows p name ≡ None → IsLinked p name next s t → IsIndexed rows next s → IsIndexed (rows ++ r ∷ []) (next + 1) t
 linked_by true rows next p name r s t own number l unused u h =
@@ -191,7 +190,7 @@ all_linked ss ts next p name r new own bare number l o low unused rel all =
       bare_index (rows_in ss ++ r ∷ []) (next + 1) new bare
           (each_append (λ z. has_parent new.row.inc z ≡ false) (rows_in ss) (r ∷ [])
           (subst (λ n. NoneHas n (rows_in ss)) (sym at) (none_high (rows_in ss) next next o (omega arith)))
-          (other_parent p new.row.inc r l.under (λ e. lower_differs p next low (sym (sym at ∙ e))))),
+          (other_parent p new.row.inc r l.under (λ e. ne_of_lt low (sym (sym at ∙ e))))),
       tt,
     )
 
@@ -199,7 +198,7 @@ all_linked ss ts next p name r new own bare number l o low unused rel all =
 
 new_others : (p j next : ℕ) (ks : List Child) → (j ≡ p → ⊥) → NoneHas j (child_rows p next ks)
 new_others p j next [] differ = tt
-new_others p j next (k ∷ ks) differ = (not_same p j (λ e. differ (sym e)), new_others p j (next + 1) ks differ)
+new_others p j next (k ∷ ks) differ = (ne_eqb p j (λ e. differ (sym e)), new_others p j (next + 1) ks differ)
 
 -- the children have the numbers from the next one on
 new_high : (p next : ℕ) (ks : List Child) → EachItem (λ r. (next ≤ r.inc) × (r.inc < next + length ks)) (child_rows p next ks)
@@ -267,7 +266,7 @@ all_grown rows ss news next p ks x own o low none new numbered bare all =
     (each_map (λ s. ((next ≤ s.row.inc) × (s.row.inc < next + length ks)) × IsBare s) (IsIndexed after (next + length ks)) news
     (λ s h. bare_index after (next + length ks) s h.1
     (each_append (λ r. has_parent s.row.inc r ≡ false) rows (child_rows p next ks) (none_high rows next s.row.inc o h.0.0)
-    (new_others p s.row.inc next ks (λ e. lower_differs p s.row.inc (up p next s.row.inc low h.0.0) (sym e)))))
+    (new_others p s.row.inc next ks (λ e. ne_of_lt (up p next s.row.inc low h.0.0) (sym e)))))
     (both (λ s. (next ≤ s.row.inc) × (s.row.inc < next + length ks)) IsBare news
     (slots_by (λ n. (next ≤ n) × (n < next + length ks)) news (child_rows p next ks) numbered (new_high p next ks)) bare)) where
       slot_inc : (zs : List Slot) (i : ℕ) (s : Slot) → slot_of zs i ≡ Some s → s.row.inc ≡ i
@@ -280,7 +279,7 @@ all_grown rows ss news next p ks x own o low none new numbered bare all =
 
 pub unless_other : (i : ℕ) (o : Option ℕ) → (o ≡ Some i → ⊥) → unless i o ≡ o
 unless_other i None differ = refl
-unless_other i (Some k) differ = ap (λ b. cond b None (Some k)) (not_same k i (λ e. differ (ap Some e)))
+unless_other i (Some k) differ = ap (λ b. cond b None (Some k)) (ne_eqb k i (λ e. differ (ap Some e)))
 
 found_lives : (rows : List Row) (next i j : ℕ) (c : ChildName) (o : Option Row) → IncarnationsIncrease next rows → find (is_there j c) rows ≡ o → option_map (λ r. r.inc) o ≡ Some i → (r : Row) × (row_of rows i ≡ Some r) × (r.parent ≡ Some j) × (r.name ≡ Some c)
 found_lives rows next i j c None increasing e is = absurd (none_some i is)

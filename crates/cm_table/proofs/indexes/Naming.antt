@@ -1,10 +1,10 @@
 -- Maps of children's names.
-use Rattle.std.proofs.Common.{◌≡◌, ℕ, zero, suc, ◌<◌, ◌≤◌, ◌+◌, ◌-◌, List, [], ◌∷◌, map, Bool, true, false, cond, ◌==◌, ◌&&◌, true≢false, Option, Some, None, find, refl, sym, ap, ap₂, ◌∙◌, arith, bytes_eq, Ordering, Less, Equal, Greater, is_eq}
+use Rattle.std.proofs.Common.{◌≡◌, ℕ, zero, suc, ◌<◌, ◌≤◌, ◌+◌, ◌-◌, List, [], ◌∷◌, map, Bool, true, false, cond, ◌==◌, ◌&&◌, true≢false, Option, Some, None, find, refl, sym, ap, ap₂, ◌∙◌, arith, bytes_eq, is_eq, ne_eqb}
 use Rattle.std.specs.Prelude.{option_map, nat_lt}
 use Rattle.std.specs.Option.{option_eq, option_cmp}
-use Rattle.std.specs.Ordering.{nat_cmp, ordering_then}
+use Rattle.std.specs.Ordering.{nat_cmp}
 use Rattle.std.specs.BTreeMap.{BTreeMap, get}
-use Rattle.std.specs.Cmp.{unsigned_Decides}
+use Rattle.std.specs.Cmp.{unsigned_Decides, tied_then}
 use Rattle.std.specs.Cmp.Lexicographic.{slice_cmp}
 use Rattle.std.proofs.lemmas.Bool.{lt-ltb, le-ltb, ltb-true, ltb-false}
 use Rattle.std.proofs.lemmas.Map.Text.{is_eq-slice_cmp}
@@ -18,15 +18,9 @@ use Rattle.cm_table.specs.Slots.{kids_at, named_at}
 use Rattle.cm_table.specs.Names.{child_cmp}
 use Rattle.cm_table.specs.Keys.{nth}
 use Rattle.cm_table.specs.Links.{unless}
-use Rattle.cm_table.proofs.lists.BinarySearch.{not_same}
 use Rattle.cm_table.proofs.indexes.Indexing.{unless_other}
 
 -- ---- names
-
-tied_then : (a b : Ordering) → (is_eq a && is_eq b) ≡ is_eq (ordering_then a b)
-tied_then Less b = refl
-tied_then Equal b = refl
-tied_then Greater b = refl
 
 options_tie : (p q : Option (List ℕ)) → is_eq (option_cmp (slice_cmp nat_cmp) p q) ≡ option_eq bytes_eq p q
 options_tie None None = refl
@@ -85,7 +79,7 @@ drop_above b a (k ∷ ks) =
 drop_low : (b i : ℕ) (ks : List ℕ) → i < b → drop_first (λ n. n == i) (map (λ n. b + n) ks) ≡ map (λ n. b + n) ks
 drop_low b i [] low = refl
 drop_low b i (k ∷ ks) low =
-    ap (λ t. cond t (map (λ n. b + n) ks) ((b + k) ∷ drop_first (λ n. n == i) (map (λ n. b + n) ks))) (not_same (b + k) i (λ e. absurd (omega arith))) ∙ ap (λ l. (b + k) ∷ l) (drop_low b i ks low)
+    ap (λ t. cond t (map (λ n. b + n) ks) ((b + k) ∷ drop_first (λ n. n == i) (map (λ n. b + n) ks))) (ne_eqb (b + k) i (λ e. absurd (omega arith))) ∙ ap (λ l. (b + k) ∷ l) (drop_low b i ks low)
 
 pub kept_low : (b i : ℕ) (ks : List ℕ) → i < b → map (λ n. b + n) ks ≡ drop_first (λ n. n == i) (map (λ n. b + n) ks)
 kept_low b i ks low = sym (drop_low b i ks low)
@@ -117,9 +111,6 @@ first_behind (n ∷ ns) = refl
 pub remove_kids : (x y : ChildIndex) → y.base ≡ x.base → (above inc : ℕ) → x.base + above ≡ inc → y.kids.items ≡ drop_first (λ k. k == above) x.kids.items → kids_at y ≡ drop_first (λ k. k == inc) (kids_at x)
 remove_kids x y same above inc sum e =
     ap₂ (λ b l. map (λ k. b + k) l) same e ∙ drop_above x.base above x.kids.items ∙ ap (λ n. drop_first (λ k. k == n) (kids_at x)) sum
-
-pub sum_above : (i b : ℕ) → b ≤ i → b + (i - b) ≡ i
-sum_above i b le = omega arith
 
 -- what leads to an incarnation leads as far above the base
 pub leads_above : (x : ChildIndex) (i above : ℕ) (c : ChildName) → x.base + above ≡ i → get child_cmp x.names c ≡ Some above → named_at x c ≡ Some i

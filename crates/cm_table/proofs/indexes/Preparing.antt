@@ -1,5 +1,5 @@
 -- The index of declared children, numbered from 0 on, and from any other number on.
-use Rattle.std.proofs.Common.{◌≡◌, ℕ, suc, zero, ◌+◌, ◌<◌, subst, List, [], ◌∷◌, ◌++◌, map, length, Bool, true, false, cond, ◌==◌, ◌&&◌, Option, Some, None, find, refl, sym, ap, ◌∙◌, arith, take, get_or, le_of_suc-le-suc}
+use Rattle.std.proofs.Common.{◌≡◌, ℕ, suc, zero, ◌+◌, ◌<◌, subst, List, [], ◌∷◌, ◌++◌, map, length, Bool, true, false, cond, ◌==◌, ◌&&◌, Option, Some, None, find, refl, sym, ap, ◌∙◌, arith, take, get_or, le_of_suc-le-suc, add-zero}
 use Rattle.std.specs.Prelude.{option_map}
 use Rattle.std.specs.Cmp.{unsigned_Decides}
 use Rattle.std.proofs.lemmas.List.{take_more, length-take, map-append}
@@ -108,11 +108,8 @@ names_from p first a c (k ∷ ks) =
     (names_from p first (a + 1) c ks ∙ ap (λ n. child_of (child_rows p n ks) p c) e)
     ∙ sym (ap (λ b. option_map (λ r. r.inc) (cond (b && same_child (static_name k.name) c && true) (Some (child_row p (first + a) k)) (find (is_there p c) (child_rows p (first + a + 1) ks)))) (own_number p))
 
-none_more : (n : ℕ) → n + 0 ≡ n
-none_more n = omega arith
-
 pub kids_first : (p first : ℕ) (ks : List Child) → map (λ k. first + k) (incs (child_rows 0 0 ks)) ≡ incs (child_rows p first ks)
-kids_first p first ks = kids_from p first 0 ks ∙ ap (λ n. incs (child_rows p n ks)) (none_more first)
+kids_first p first ks = kids_from p first 0 ks ∙ ap (λ n. incs (child_rows p n ks)) (add-zero first)
 
 pub names_first : (p first : ℕ) (c : ChildName) (ks : List Child) → option_map (λ n. first + n) (child_of (child_rows 0 0 ks) 0 c) ≡ child_of (child_rows p first ks) p c
-names_first p first c ks = names_from p first 0 c ks ∙ ap (λ n. child_of (child_rows p n ks) p c) (none_more first)
+names_first p first c ks = names_from p first 0 c ks ∙ ap (λ n. child_of (child_rows p n ks) p c) (add-zero first)

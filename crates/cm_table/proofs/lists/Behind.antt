@@ -1,12 +1,9 @@
 -- The first item with a higher key, found by binary search.
-use Rattle.std.proofs.Common.{◌≡◌, ℕ, ◌≤◌, List, [], ◌∷◌, Bool, find, refl, arith, get_or}
+use Rattle.std.proofs.Common.{◌≡◌, ℕ, List, [], ◌∷◌, Bool, find, refl, arith, get_or, le_refl}
 use Rattle.std.specs.Prelude.{nat_lt}
 use Rattle.std.proofs.lemmas.Bool.{lt-ltb, le-ltb}
 use Rattle.cm_table.specs.Keys.{alone, nth, IsPlace}
 use Rattle.cm_table.proofs.lists.BinarySearch.{find-nth}
-
-least : (n : ℕ) → n ≤ n
-least n = omega arith
 
 module _ {Y : Type 0} (key : Y → ℕ) where
   abbrev pub is_higher : ℕ → Y → Bool
@@ -18,4 +15,4 @@ module _ {Y : Type 0} (key : Y → ℕ) where
   behind_item (s ∷ ss) i k p =
       find-nth (is_higher i) (s ∷ ss) k s p.bound
       (λ j less. le-ltb i (key (get_or (s ∷ ss) j s)) (p.low j s less))
-      (λ lt. lt-ltb i (key (get_or (s ∷ ss) k s)) (p.high k s (least k) lt))
+      (λ lt. lt-ltb i (key (get_or (s ∷ ss) k s)) (p.high k s (le_refl k) lt))

@@ -1,5 +1,5 @@
 -- The item of a key, found by binary search.
-use Rattle.std.proofs.Common.{◌≡◌, ℕ, zero, suc, ◌+◌, ◌<◌, ◌≤◌, List, [], ◌∷◌, ◌++◌, length, Bool, true, false, cond, ◌==◌, true≢false, Option, Some, None, IsSome, is_some, refl, sym, ap, ◌∙◌, subst, arith, get_or, le_of_suc-le-suc, zero-lt-suc, suc-le-suc, find, ◌-◌, leb, leb-false, leb-true}
+use Rattle.std.proofs.Common.{◌≡◌, ℕ, zero, suc, ◌+◌, ◌<◌, ◌≤◌, List, [], ◌∷◌, ◌++◌, length, Bool, true, false, cond, ◌==◌, true≢false, Option, Some, None, IsSome, is_some, refl, sym, ap, ◌∙◌, subst, arith, get_or, le_of_suc-le-suc, zero-lt-suc, suc-le-suc, find, ◌-◌, leb, leb-false, leb-true, ne_eqb, le_of_lt, ne_of_lt}
 use Rattle.std.specs.Prelude.{slice_get}
 use Rattle.std.specs.List.{flat_map}
 use Rattle.std.specs.List.Sorted.{IsNonDecreasingBy}
@@ -14,23 +14,8 @@ pub no_some : {A : Type 0} (o : Option A) → (IsSome o → ⊥) → o ≡ None
 no_some None h = refl
 no_some (Some x) h = absurd (h refl)
 
-pub not_same : (n m : ℕ) → (n ≡ m → ⊥) → (n == m) ≡ false
-not_same n m differ = by (n == m) refl where
-  by : (t : Bool) → (n == m) ≡ t → t ≡ false
-  by true same = absurd (differ ((unsigned_Decides n m).0 same))
-  by false same = refl
-
-pub lower_differs : (n m : ℕ) → n < m → n ≡ m → ⊥
-lower_differs n m less same = let at : n < n = subst (λ z. n < z) (sym same) less in absurd (omega arith)
-
 both_ways : (n m : ℕ) → n < m → m ≤ n → ⊥
 both_ways n m less other = absurd (omega arith)
-
-pub lt_le : (a b : ℕ) → a < b → a ≤ b
-lt_le a b h = omega arith
-
-pub not_le : (a b : ℕ) → leb a b ≡ false → b < a
-not_le a b e = leb-false a b e
 
 pub one_less : (k : ℕ) → (k ≡ 0 → ⊥) → (suc (k - 1) ≡ k)
 one_less k differ = omega arith
@@ -104,7 +89,7 @@ module _ {Y : Type 0} (key : Y → ℕ) where
   low_none : (b ys : List Y) (i : ℕ) → 0 < length b → Increasing key (b ++ ys) → i < first_key key b → item_of key (b ++ ys) i ≡ None
   low_none [] ys i h r low = absurd (omega arith)
   low_none (s ∷ ss) ys i h r low =
-      let miss : (key s == i) ≡ false = not_same (key s) i (λ e. lower_differs i (key s) low (sym e)) in
+      let miss : (key s == i) ≡ false = ne_eqb (key s) i (λ e. ne_of_lt low (sym e)) in
       rw miss (no_some (item_of key (ss ++ ys) i) (λ g. let up : key s < i = r.0 i g in absurd (omega arith)))
 
   module _ {X : Type 0} (f : X → List Y) where
@@ -118,8 +103,7 @@ module _ {Y : Type 0} (key : Y → ℕ) where
     begin_higher [] filled r i j d le lt = absurd (omega arith)
     begin_higher (x ∷ xs) filled r zero zero d le lt = omega arith
     begin_higher (x ∷ xs) filled r zero (suc j) d le lt =
-        lt_le (first_key key (f x)) (first_key key (f (get_or xs j d)))
-        (before (f x) (flat_map f xs) (first_key key (f x)) (first_key key (f (get_or xs j d))) r (starts (f x) filled.0) (part_starts xs j d filled.1 (le_of_suc-le-suc lt)))
+        le_of_lt (before (f x) (flat_map f xs) (first_key key (f x)) (first_key key (f (get_or xs j d))) r (starts (f x) filled.0) (part_starts xs j d filled.1 (le_of_suc-le-suc lt)))
     begin_higher (x ∷ xs) filled r (suc i) zero d le lt = absurd (omega arith)
     begin_higher (x ∷ xs) filled r (suc i) (suc j) d le lt = begin_higher xs filled.1 (increasing_back (f x) (flat_map f xs) r) i j d (le_of_suc-le-suc le) (le_of_suc-le-suc lt)
 
@@ -201,7 +185,7 @@ module _ {Y : Type 0} (key : Y → ℕ) where
           high = λ j d le lt.
               let next : k + 1 < length xs = omega arith in
               let up : first_key key (f (get_or xs (k + 1) d)) ≤ first_key key (f (get_or xs j d)) = begin_higher xs filled r (k + 1) j d (omega arith) lt in
-              let own : i < first_key key (f (get_or xs (k + 1) d)) = not_le _ _ (sym (reaches_at xs i (k + 1) d next) ∙ beyond) in
+              let own : i < first_key key (f (get_or xs (k + 1) d)) = leb-false _ _ (sym (reaches_at xs i (k + 1) d next) ∙ beyond) in
               omega arith;
         }
 
@@ -219,7 +203,7 @@ module _ {Y : Type 0} (key : Y → ℕ) where
   found_alone s i e = rw ((unsigned_Decides (key s) i).1 e) refl
 
   none_alone : (s : Y) (i : ℕ) → (key s ≡ i → ⊥) → item_of key (alone s) i ≡ None
-  none_alone s i e = rw (not_same (key s) i e) refl
+  none_alone s i e = rw (ne_eqb (key s) i e) refl
 
   pub item_none : (ss : List Y) (i k : ℕ) → Increasing key ss → k ≡ 0 → IsPlace key alone ss i k → item_of key ss i ≡ None
   item_none ss i k r e p =
@@ -266,7 +250,7 @@ module _ {Y : Type 0} (key : Y → ℕ) where
   -- those before the place of a key have others
   pub others_before : (ss : List Y) (k : ℕ) (d : Y) (i : ℕ) → Increasing key ss → k < length ss → key (get_or ss k d) ≡ i → (j : ℕ) → j < k → (key (get_or ss j d) == i) ≡ false
   others_before ss k d i r lt here j less =
-      not_same (key (get_or ss j d)) i (λ e. lower_differs (key (get_or ss j d)) (key (get_or ss k d)) (strictly ss j k d r less lt) (e ∙ sym here))
+      ne_eqb (key (get_or ss j d)) i (λ e. ne_of_lt (strictly ss j k d r less lt) (e ∙ sym here))
 
 -- ---- the first item that passes a test which fails up to a place, and passes from there on
 
@@ -289,7 +273,7 @@ at_place key ss i k s r lt is own =
     record {
       bound = lt;
       own = here;
-      found = λ d. find-nth (λ y. key y == i) ss k d (lt_le k (length ss) lt) (others_before key ss k d i r lt (here d)) (λ le. (unsigned_Decides (key (get_or ss k d)) i).1 (here d)) ∙ nth-some ss k d lt;
+      found = λ d. find-nth (λ y. key y == i) ss k d (le_of_lt lt) (others_before key ss k d i r lt (here d)) (λ le. (unsigned_Decides (key (get_or ss k d)) i).1 (here d)) ∙ nth-some ss k d lt;
     }
 
 -- and the place behind it is that of its key among the items as parts

@@ -1,10 +1,10 @@
 -- A property of all items, and a relation of the items of two lists.
-use Rattle.std.proofs.Common.{◌≡◌, ℕ, zero, suc, ◌<◌, List, [], ◌∷◌, ◌++◌, Bool, true, false, cond, ◌==◌, true≢false, Option, Some, IsSome, find, refl, sym, ap, ◌∙◌, subst}
+use Rattle.std.proofs.Common.{◌≡◌, ℕ, zero, suc, ◌<◌, List, [], ◌∷◌, ◌++◌, Bool, true, false, cond, ◌==◌, true≢false, Option, Some, IsSome, find, refl, sym, ap, ◌∙◌, subst, ne_of_lt}
 use Rattle.std.specs.Cmp.{unsigned_Decides}
 use Rattle.cm_world.specs.Edits.{edit_first, drop_first}
 use Rattle.cm_world.proofs.trees.Finding.{some_same, none_some}
 use Rattle.cm_table.specs.Keys.{EachItem, EachOf, item_of, nth, Increasing}
-use Rattle.cm_table.proofs.lists.BinarySearch.{own, lower_differs, some_cond}
+use Rattle.cm_table.proofs.lists.BinarySearch.{own, some_cond}
 use Rattle.cm_table.proofs.lists.Editing.{edited}
 
 module _ {A : Type 0} where
@@ -70,7 +70,7 @@ module _ {Y : Type 0} (key : Y → ℕ) where
   of_by true R P i f s ss own rise all hit other later =
       let at : key s ≡ i = (unsigned_Decides (key s) i).0 own in (
         hit s all.0 (ap (λ t. cond t (Some s) (item_of key ss i)) own),
-        each_same R (λ x. P x × (key s < key x)) ss (λ x h. other x h.0 (λ e. lower_differs (key s) (key x) h.1 (at ∙ sym e)))
+        each_same R (λ x. P x × (key s < key x)) ss (λ x h. other x h.0 (λ e. ne_of_lt h.1 (at ∙ sym e)))
             (both P (λ x. key s < key x) ss all.1 (above (key s) ss rise.0)),
       )
   of_by false R P i f s ss own rise all hit other later =

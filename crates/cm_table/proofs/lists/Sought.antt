@@ -1,5 +1,5 @@
 -- Items found by binary search in an order of their places.
-use Rattle.std.proofs.Common.{◌≡◌, ℕ, ◌+◌, ◌<◌, ◌≤◌, List, [], ◌∷◌, length, Bool, true, false, cond, true≢false, Option, Some, None, refl, sym, ap, ap₂, ◌∙◌, subst, arith, get_or, nat_cmp, Ordering, Less, Equal, Greater}
+use Rattle.std.proofs.Common.{◌≡◌, ℕ, ◌<◌, ◌≤◌, List, [], ◌∷◌, length, Bool, true, false, cond, true≢false, Option, Some, None, refl, sym, ap, ap₂, ◌∙◌, subst, arith, get_or, nat_cmp, Ordering, Less, Equal, Greater, zero-add}
 use Rattle.std.specs.Prelude.{slice_get, position, nat_lt}
 use Rattle.std.specs.List.{Contains, position_or_len, range_with_len}
 use Rattle.std.specs.List.Sorted.{IsPartitionedBy, IsPermutation, IsSorted}
@@ -170,16 +170,13 @@ module _ {X K : Type 0} (key : Option X → K) (cmp : K → K → Ordering) (tot
 
 -- ---- the places in order
 
-from_zero : (k : ℕ) → 0 + k ≡ k
-from_zero k = omega arith
-
 range_has : (n k : ℕ) → k < n → Contains (range_with_len 0 n) k
-range_has n k lt = (k, rw (length-range_with_len 0 n) lt, get_or-range_with_len 0 n k k lt ∙ from_zero k)
+range_has n k lt = (k, rw (length-range_with_len 0 n) lt, get_or-range_with_len 0 n k k lt ∙ zero-add k)
 
 range_within : (n k : ℕ) → Contains (range_with_len 0 n) k → k < n
 range_within n k c =
     let lt : c.0 < n = subst (λ l. c.0 < l) (length-range_with_len 0 n) c.1 in
-    let is : c.0 ≡ k = sym (from_zero c.0) ∙ sym (get_or-range_with_len 0 n c.0 k lt) ∙ c.2 in
+    let is : c.0 ≡ k = sym (zero-add c.0) ∙ sym (get_or-range_with_len 0 n c.0 k lt) ∙ c.2 in
     omega arith
 
 pub ordered : {X K : Type 0} (key : Option X → K) (cmp : K → K → Ordering) (items : List X) (places sorted : List ℕ) → places ≡ range_with_len 0 (length items) → IsPermutation places sorted → IsSorted (place_cmp_by key cmp items) sorted → IsOrderBy key cmp items sorted

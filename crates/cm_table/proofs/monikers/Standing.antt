@@ -1,5 +1,5 @@
 -- What is kept of where rows stand is so behind each change.
-use Rattle.std.proofs.Common.{◌≡◌, ℕ, ◌+◌, List, [], ◌∷◌, ◌++◌, map, Bool, true, false, cond, ◌==◌, Option, Some, None, IsSome, IsTrue, option_and_then, option_to_list, refl, sym, ◌∙◌, ap, subst, Bor}
+use Rattle.std.proofs.Common.{◌≡◌, ℕ, ◌+◌, List, [], ◌∷◌, ◌++◌, map, Bool, true, false, cond, ◌==◌, Option, Some, None, IsSome, IsTrue, option_and_then, option_to_list, refl, sym, ◌∙◌, ap, subst, Bor, ne_eqb}
 use Rattle.std.specs.Prelude.{IfSome}
 use Rattle.std.specs.Option.{option_copied}
 use Rattle.std.specs.Cmp.{unsigned_Decides}
@@ -28,7 +28,7 @@ use Rattle.cm_table.specs.Marking.{unmarked}
 use Rattle.cm_table.specs.Monikers.{kept_at, StandWhereKept, IsMonikerBelow, IsChildMoniker}
 use Rattle.cm_table.specs.Numbering.{bare_slot}
 use Rattle.cm_table.specs.Slots.{inc_of, slot_of, rows_in, with_row_by, indexed_by}
-use Rattle.cm_table.proofs.lists.BinarySearch.{not_same, some_prefix, none_append}
+use Rattle.cm_table.proofs.lists.BinarySearch.{some_prefix, none_append}
 use Rattle.cm_table.proofs.lists.EachItem.{each_find}
 use Rattle.cm_table.proofs.lists.Editing.{edited, dropped}
 use Rattle.cm_table.proofs.tree.Adding.{resolved_by}
@@ -75,7 +75,7 @@ kept_edited f x j (s ∷ ss) inc same =
 
 left_by : (t : Bool) (x j : ℕ) (s : Slot) (ss zs : List Slot) → (s.row.inc == x) ≡ t → (j ≡ x → ⊥) → kept_at zs j ≡ kept_at ss j → kept_at (cond t ss (s ∷ zs)) j ≡ kept_at (s ∷ ss) j
 left_by true x j s ss zs own differ later =
-    let off : (s.row.inc == j) ≡ false = not_same s.row.inc j (λ e. differ (sym e ∙ (unsigned_Decides s.row.inc x).0 own)) in
+    let off : (s.row.inc == j) ≡ false = ne_eqb s.row.inc j (λ e. differ (sym e ∙ (unsigned_Decides s.row.inc x).0 own)) in
     sym (kept_step s ss j ∙ ap (λ t. cond t s.moniker (kept_at ss j)) off)
 left_by false x j s ss zs own differ later = step_same s s ss zs j refl refl later
 

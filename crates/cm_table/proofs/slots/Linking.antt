@@ -1,5 +1,5 @@
 -- The index of one slot is taken out, changed and put back.
-use Rattle.std.proofs.Common.{◌≡◌, ℕ, ◌<◌, ◌+◌, List, [], ◌∷◌, ◌++◌, map, Bool, true, false, cond, ◌==◌, ◌&&◌, Option, Some, None, IsSome, is_some, find, filter, refl, sym, ap, ◌∙◌, subst, arith}
+use Rattle.std.proofs.Common.{◌≡◌, ℕ, ◌<◌, ◌+◌, List, [], ◌∷◌, ◌++◌, map, Bool, true, false, cond, ◌==◌, ◌&&◌, Option, Some, None, IsSome, is_some, find, filter, refl, sym, ap, ◌∙◌, subst, arith, ne_eqb}
 use Rattle.std.specs.Prelude.{option_map, option_and_then, OnOk, OnErr, Result, Ok, Err}
 use Rattle.std.specs.Option.{option_eq}
 use Rattle.cm_names.specs.declared.child.ChildName.{ChildName}
@@ -18,7 +18,6 @@ use Rattle.cm_table.specs.Slots.{inc_of, slot_of, rows_in, indexed_by, kids_of, 
 use Rattle.cm_table.specs.Links.{unless, Rises, IsSame, IsLinked, IsUnlinked}
 use Rattle.cm_table.proofs.tree.Rows.{some_is, is_some_by}
 use Rattle.cm_table.proofs.lists.EachItem.{each_find, each_same, each_of_edited}
-use Rattle.cm_table.proofs.lists.BinarySearch.{not_same}
 use Rattle.cm_table.proofs.indexes.Naming.{same_above}
 use Rattle.cm_table.proofs.lists.Editing.{edited}
 use Rattle.cm_table.proofs.slots.Rowed.{row_of-slots, some_rows, rows_indexed, indexed_twice}
@@ -47,7 +46,7 @@ found_inc : (ss : List Slot) (p : ℕ) (s : Slot) → slot_of ss p ≡ Some s �
 found_inc ss p s e = find-passes (λ z. z.row.inc == p) ss s e
 
 missed_inc : (s : Slot) (p : ℕ) → (s.row.inc ≡ p → ⊥) → (s.row.inc == p) ≡ false
-missed_inc s p differ = not_same s.row.inc p differ
+missed_inc s p differ = ne_eqb s.row.inc p differ
 
 -- ---- a child more
 

@@ -1,5 +1,5 @@
 -- The table of the root alone.
-use Rattle.std.proofs.Common.{◌≡◌, ℕ, List, [], ◌∷◌, ◌++◌, Bool, true, false, cond, ◌==◌, true≢false, Option, Some, None, option_and_then, refl, sym, ap, subst, ◌∙◌}
+use Rattle.std.proofs.Common.{◌≡◌, ℕ, List, [], ◌∷◌, ◌++◌, Bool, true, false, cond, ◌==◌, true≢false, Option, Some, None, option_and_then, refl, sym, ap, subst, ◌∙◌, ne_eqb}
 use Rattle.std.specs.Cmp.{unsigned_Decides}
 use Rattle.cm_names.specs.declared.moniker.Moniker.{Moniker}
 use Rattle.cm_world.specs.declared.row.Row.{Row}
@@ -17,7 +17,6 @@ use Rattle.cm_table.specs.Slots.{flat, rows_in, slots_in, IsIndexed}
 use Rattle.cm_table.specs.Flags.{AreFlagged, has_mark, flag_of, no_flags}
 use Rattle.cm_table.specs.Monikers.{kept_at, StandWhereKept}
 use Rattle.cm_table.specs.Numbering.{bare_slot}
-use Rattle.cm_table.proofs.lists.BinarySearch.{not_same}
 use Rattle.cm_table.proofs.flags.Climbs.{none_above}
 use Rattle.cm_table.proofs.flags.Flagging.{flag-none}
 use Rattle.cm_table.proofs.indexes.Indexing.{bare_index}
@@ -46,7 +45,7 @@ flagged_first url k i = by (i == 0) refl where
     at_root Closing = refl
     at_root Doomed = refl
   by false e =
-      let other : (0 == i) ≡ false = not_same 0 i (λ same. true≢false (sym ((unsigned_Decides i 0).1 (sym same)) ∙ e)) in
+      let other : (0 == i) ≡ false = ne_eqb 0 i (λ same. true≢false (sym ((unsigned_Decides i 0).1 (sym same)) ∙ e)) in
       flag-none k first i (ap (λ t. cond t (Some (bare_slot (root_row url) no_flags root_kept)) None) other)
       ∙ sym (none_above (has_mark k) (rows_in first) i (ap (λ t. cond t (Some (root_row url)) None) other))
 
@@ -58,5 +57,5 @@ standing_first url i m = by (i == 0) refl where
   by : (t : Bool) → (i == 0) ≡ t → kept_at first i ≡ Some m → m ≡ moniker_of (rows_in first) i
   by true e = subst (λ n. kept_at first n ≡ Some m → m ≡ moniker_of (rows_in first) n) (sym ((unsigned_Decides i 0).0 e)) (λ h. sym (some_same (record { parts = [] }) m h))
   by false e =
-      let other : (0 == i) ≡ false = not_same 0 i (λ same. true≢false (sym ((unsigned_Decides i 0).1 (sym same)) ∙ e)) in
+      let other : (0 == i) ≡ false = ne_eqb 0 i (λ same. true≢false (sym ((unsigned_Decides i 0).1 (sym same)) ∙ e)) in
       λ h. absurd (none_some m (sym (ap (λ t. option_and_then (λ (s : Slot). s.moniker) (cond t (Some (bare_slot (root_row url) no_flags root_kept)) None)) other) ∙ h))

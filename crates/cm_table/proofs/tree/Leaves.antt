@@ -1,5 +1,5 @@
 -- Rows without one that has no children.
-use Rattle.std.proofs.Common.{◌≡◌, ℕ, zero, suc, ◌+◌, ◌<◌, List, [], ◌∷◌, Bool, true, false, cond, not, ◌&&◌, ◌||◌, ◌==◌, nat_eq, true≢false, Option, Some, None, IsSome, IsTrue, find, filter, length, refl, sym, ◌∙◌, ap, arith}
+use Rattle.std.proofs.Common.{◌≡◌, ℕ, zero, suc, ◌+◌, ◌<◌, List, [], ◌∷◌, Bool, true, false, cond, not, ◌&&◌, ◌||◌, ◌==◌, nat_eq, true≢false, Option, Some, None, IsSome, IsTrue, find, filter, length, refl, sym, ◌∙◌, ap, arith, ne_eqb, ne_of_lt}
 use Rattle.std.specs.Option.{option_eq}
 use Rattle.std.specs.Cmp.{unsigned_Decides}
 use Rattle.cm_world.specs.declared.row.Row.{Row}
@@ -13,7 +13,6 @@ use Rattle.cm_world.proofs.trees.Climbing.{fewer, some_above-step, above_root}
 use Rattle.cm_table.specs.Reading.{follows}
 use Rattle.cm_table.proofs.tree.Rows.{some_is, is_some_by, left_by}
 use Rattle.cm_table.proofs.tree.Adding.{none_mapped, missed}
-use Rattle.cm_table.proofs.lists.BinarySearch.{not_same, lower_differs}
 
 -- the rows without that of an incarnation
 abbrev pub without : ℕ → List Row → List Row
@@ -23,7 +22,7 @@ without i rows = drop_first (λ r. r.inc == i) rows
 
 left_at : (t : Bool) (i next j : ℕ) (x s : Row) (xs : List Row) → IncarnationsIncrease next (x ∷ xs) → (row_of (without i xs) j ≡ Some s → row_of xs j ≡ Some s) → row_of (cond t xs (x ∷ without i xs)) j ≡ Some s → row_of (x ∷ xs) j ≡ Some s
 left_at true i next j x s xs increasing later e =
-    let miss : (x.inc == j) ≡ false = not_same x.inc j (lower_differs x.inc j (increasing.0.1 j (is_some_by (row_of xs j) s e))) in
+    let miss : (x.inc == j) ≡ false = ne_eqb x.inc j (ne_of_lt (increasing.0.1 j (is_some_by (row_of xs j) s e))) in
     rw miss e
 left_at false i next j x s xs increasing later e = left_by (x.inc == j) x s (row_of (without i xs) j) (row_of xs j) later e
 
@@ -38,7 +37,7 @@ not_by false i j x s o same other later e is = later e is
 
 not_at : (t : Bool) (i next j : ℕ) (x s : Row) (xs : List Row) → (x.inc == i) ≡ t → IncarnationsIncrease next (x ∷ xs) → (row_of (without i xs) j ≡ Some s → j ≡ i → ⊥) → row_of (cond t xs (x ∷ without i xs)) j ≡ Some s → j ≡ i → ⊥
 not_at true i next j x s xs own increasing later e is =
-    lower_differs x.inc j (increasing.0.1 j (is_some_by (row_of xs j) s e)) ((unsigned_Decides x.inc i).0 own ∙ sym is)
+    ne_of_lt (increasing.0.1 j (is_some_by (row_of xs j) s e)) ((unsigned_Decides x.inc i).0 own ∙ sym is)
 not_at false i next j x s xs own increasing later e is = not_by (x.inc == j) i j x s (row_of (without i xs) j) refl own later e is
 
 -- and isn't the one that was taken away
@@ -126,7 +125,7 @@ filter_by b c x ys zs same rest = ap (λ t. cond t (x ∷ ys) ys) same ∙ ap (�
 
 behind : (next : ℕ) (x r : Row) (xs : List Row) → IncarnationsIncrease next (x ∷ xs) → row_of xs r.inc ≡ Some r → row_of (x ∷ xs) r.inc ≡ Some r
 behind next x r xs increasing here =
-    let miss : (x.inc == r.inc) ≡ false = not_same x.inc r.inc (lower_differs x.inc r.inc (increasing.0.1 r.inc (is_some_by (row_of xs r.inc) r here))) in
+    let miss : (x.inc == r.inc) ≡ false = ne_eqb x.inc r.inc (ne_of_lt (increasing.0.1 r.inc (is_some_by (row_of xs r.inc) r here))) in
     rw miss here
 
 -- two tests that agree on rows that live leave the same rows
@@ -156,7 +155,7 @@ others_without rows next top i o childless below =
 nothing_by : (n top i : ℕ) (rows : List Row) (o : Option Row) → row_of rows top ≡ None → row_of rows i ≡ o → ((u : Option ℕ) → at_or_above n (λ r. r.inc == top) rows u ≡ false) → elim o as (λ _. Bool) [ None ↦ false | Some r ↦ (r.inc == top) || at_or_above n (λ s. s.inc == top) rows r.parent ] ≡ false
 nothing_by n top i rows None none e later = refl
 nothing_by n top i rows (Some r) none e later =
-    let other : (r.inc == top) ≡ false = not_same r.inc top (λ same. none_some r (sym none ∙ ap (row_of rows) (sym same ∙ row_of-inc rows i r e) ∙ e)) in
+    let other : (r.inc == top) ≡ false = ne_eqb r.inc top (λ same. none_some r (sym none ∙ ap (row_of rows) (sym same ∙ row_of-inc rows i r e) ∙ e)) in
     rw other (later r.parent)
 
 -- nothing is below a row that doesn't live

@@ -1,5 +1,5 @@
 -- A row without children is taken away, and removal goes on at its parent.
-use Rattle.std.proofs.Common.{◌≡◌, ℕ, ◌<◌, ◌-◌, ◌==◌, ◌||◌, List, Bool, true, false, true≢false, Option, Some, None, length, refl, sym, ◌∙◌, ap, subst, arith}
+use Rattle.std.proofs.Common.{◌≡◌, ℕ, ◌<◌, ◌-◌, ◌==◌, ◌||◌, List, Bool, true, false, true≢false, Option, Some, None, length, refl, sym, ◌∙◌, ap, subst, arith, ne_eqb}
 use Rattle.std.specs.Prelude.{option_map, option_and_then}
 use Rattle.cm_world.specs.declared.row.Row.{Row}
 use Rattle.cm_world.specs.Rows.{row_of, is_below, at_or_above}
@@ -10,7 +10,7 @@ use Rattle.cm_table.specs.declared.slot.Slot.{Slot}
 use Rattle.cm_table.specs.Leaf.{IsWithin, IsLeaf, IsChildOf}
 use Rattle.cm_table.proofs.tree.Rows.{some_is, is_some_by, lives_below}
 use Rattle.cm_table.proofs.tree.Leaves.{without, stays, not_taken, above_same, below_itself}
-use Rattle.cm_table.proofs.lists.BinarySearch.{no_some, not_same}
+use Rattle.cm_table.proofs.lists.BinarySearch.{no_some}
 
 -- what is left to remove, over rows
 abbrev pub Goes : List Row → ℕ → Option ℕ → Type 0
@@ -65,7 +65,7 @@ goes_by rows next top leaf r (Some p) o l here up above =
 pub goes_on : (rows : List Row) (next top leaf : ℕ) → IsOrderly rows next → IsLeaf rows top leaf → (leaf ≡ top → ⊥) → Goes (without leaf rows) top (option_and_then (λ r. r.parent) (row_of rows leaf))
 goes_on rows next top leaf o l differ =
     let q : (r : Row) × (row_of rows leaf ≡ Some r) = some_is (row_of rows leaf) l.lives in
-    let other : (q.0.inc == top) ≡ false = not_same q.0.inc top (λ e. differ (sym (row_of-inc rows leaf q.0 q.1) ∙ e)) in
+    let other : (q.0.inc == top) ≡ false = ne_eqb q.0.inc top (λ e. differ (sym (row_of-inc rows leaf q.0 q.1) ∙ e)) in
     subst (λ z. Goes (without leaf rows) top (option_and_then (λ r. r.parent) z)) (sym q.1)
     (goes_by rows next top leaf q.0 q.0.parent o l q.1 refl
     (left_by (q.0.inc == top) (at_or_above (length rows) (λ s. s.inc == top) rows q.0.parent) other (sym (some_above-step (λ s. s.inc == top) rows next leaf q.0 o q.1) ∙ l.below)))

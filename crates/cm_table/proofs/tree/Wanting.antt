@@ -5,11 +5,11 @@ use Rattle.std.specs.BTreeSet.{BTreeSet}
 use Rattle.std.proofs.lemmas.Bool.{and_from as and_pair}
 use Rattle.std.proofs.lemmas.List.{take_all}
 use Rattle.std.proofs.lemmas.List.Folds.{list_all-append, list_all_more}
+use Rattle.std.specs.Cmp.{first_so, second_so}
 use Rattle.cm_names.specs.declared.child.ChildName.{ChildName}
 use Rattle.cm_decl.specs.declared.rows.Child.{Child as DeclaredChild}
 use Rattle.cm_decl.specs.declared.rows.Give.{Give}
 use Rattle.cm_decl.specs.Same.{same_child}
-use Rattle.cm_decl.proofs.Sameness.{and_first, and_second}
 use Rattle.cm_world.specs.declared.row.Row.{Row}
 use Rattle.cm_world.specs.declared.action.Outcome.{Outcome}
 use Rattle.cm_world.specs.declared.action.Outcome.TheVariants.{Started, Stopped, Killed}
@@ -56,10 +56,10 @@ plain_changed c i f same (x ∷ xs) = plain_by (x.inc == i) c f x xs (changed i 
 
 plain_without : (c : ChildName) (i : ℕ) (rows : List Row) → IsTrue (list_all (plain c) rows) → IsTrue (list_all (plain c) (without i rows))
 plain_without c i [] h = h
-plain_without c i (x ∷ xs) h = by (x.inc == i) (plain_without c i xs (and_second (plain c x) (list_all (plain c) xs) h)) where
+plain_without c i (x ∷ xs) h = by (x.inc == i) (plain_without c i xs (second_so (plain c x) (list_all (plain c) xs) h)) where
   by : (t : Bool) → IsTrue (list_all (plain c) (without i xs)) → IsTrue (list_all (plain c) (cond t xs (x ∷ without i xs)))
-  by true later = and_second (plain c x) (list_all (plain c) xs) h
-  by false later = and_pair (plain c x) (list_all (plain c) (without i xs)) (and_first (plain c x) (list_all (plain c) xs) h) later
+  by true later = second_so (plain c x) (list_all (plain c) xs) h
+  by false later = and_pair (plain c x) (list_all (plain c) (without i xs)) (first_so (plain c x) (list_all (plain c) xs) h) later
 
 plain_children : (c : ChildName) (p next : ℕ) (ks : List DeclaredChild) → IsTrue (list_all (plain c) (child_rows p next ks))
 plain_children c p next [] = refl

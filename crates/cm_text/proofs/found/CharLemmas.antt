@@ -8,13 +8,13 @@ use Rattle.std.proofs.lemmas.Str.{encode_ascii, inside_one, len_utf8_bounds, len
 use Rattle.std.proofs.lemmas.Bool.Decides.{leb_tells}
 use Rattle.std.proofs.lemmas.Grind.{flat_map-append}
 use Rattle.std.proofs.lemmas.List.Folds.{list_all-append}
+use Rattle.std.specs.Cmp.{second_so}
 use Rattle.cm_text.specs.Token.{Char, plain, taken}
 use Rattle.cm_text.specs.Split.{is_char}
 use Rattle.cm_text.specs.Json.{char_json}
 use Rattle.cm_text.specs.Scan.{within}
 use Rattle.cm_text.specs.Spelling.{char_text, chars_json, are_chars}
 use Rattle.cm_text.proofs.found.StringLemmas.{within_plain}
-use Rattle.cm_text.proofs.ByteLemmas.{both_right}
 
 -- the characters of one encoded character
 items_of : Bool → List ℕ → List Char
@@ -126,7 +126,7 @@ char_step e c rest h =
 
 pub char_left : (e : Bool) (c : ℕ) (rest : List ℕ) → (e ≡ true) ⊎ ((c == 92) ≡ false) → are_chars e (encode_utf8 c ++ rest) ≡ true → are_chars false rest ≡ true
 char_left e c rest h left =
-    both_right (list_all (is_char 39) (items_of e (encode_utf8 c))) (are_chars false rest)
+    second_so (list_all (is_char 39) (items_of e (encode_utf8 c))) (are_chars false rest)
     (sym (list_all-append (is_char 39) (items_of e (encode_utf8 c)) (within false rest)) ∙ ap (list_all (is_char 39)) (sym (char_within e c rest h)) ∙ left)
 
 pub passed_char : (e : Bool) (c : ℕ) (text rest json written whole : List ℕ) → text ≡ encode_utf8 c ++ rest → ((c ≡ 92) × (e ≡ true)) ⊎ (c ≡ 92 → ⊥) → written ≡ json ++ char_text e c → are_chars e text ≡ true → json ++ chars_json e text ≡ whole → (are_chars false rest ≡ true) × (written ++ chars_json false rest ≡ whole)

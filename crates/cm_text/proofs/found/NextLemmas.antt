@@ -3,6 +3,7 @@ use Rattle.std.proofs.Common.{◌≡◌, ℕ, ◌-◌, List, [], ◌∷◌, leng
 use Rattle.std.proofs.Transfers.{drop-appended}
 use Rattle.std.specs.Str.{IsUtf8, IsCharBoundary}
 use Rattle.std.specs.List.{list_all}
+use Rattle.std.proofs.lemmas.Bool.{and_parts}
 use Rattle.std.proofs.lemmas.List.{take_rest, take-append-le, take_all}
 use Rattle.cm_text.specs.Bytes.{begins_with, begins_key, continues_key, is_word_byte}
 use Rattle.cm_text.specs.Token.{Token, word, Piece, token, piece_bytes}
@@ -11,7 +12,6 @@ use Rattle.cm_text.specs.Json.{is_bare_key}
 use Rattle.cm_text.specs.Scan.{outline, first_of_text}
 use Rattle.cm_text.specs.Next.{BehindBlank, BehindKey}
 use Rattle.cm_text.specs.declared.token.Token.{Token as CodeToken}
-use Rattle.cm_text.proofs.ByteLemmas.{both_left, both_right}
 use Rattle.cm_text.proofs.pieces.PieceLemmas.{run_more}
 use Rattle.cm_text.proofs.pieces.SoundLemmas.{Stands, runs, some_bytes_there}
 use Rattle.cm_text.proofs.pieces.CutLemmas.{stands_cut}
@@ -41,8 +41,8 @@ blank_passed text rest t n cut none h =
 word_bytes : (k : List ℕ) → list_all continues_key k ≡ true → list_all is_word_byte k ≡ true
 word_bytes [] h = refl
 word_bytes (b ∷ bs) h =
-    let here = both_left (continues_key b) (list_all continues_key bs) h in
-    rw here (word_bytes bs (both_right (continues_key b) (list_all continues_key bs) h))
+    let both = and_parts (continues_key b) (list_all continues_key bs) h in
+    rw both.0 (word_bytes bs both.1)
 
 key_begins : (text : List ℕ) → begins_with begins_key text ≡ true
     → (begins_with begins_key (take_while continues_key text) ≡ true)

@@ -4,10 +4,10 @@ use Rattle.std.specs.Str.{IsUtf8, IsCharBoundary}
 use Rattle.std.proofs.lemmas.Str.{IsCharBoundary-after_ascii, IsCharBoundary-before_ascii, IsCharBoundary-end}
 use Rattle.std.specs.List.{list_all, flat_map}
 use Rattle.std.proofs.lemmas.List.{append-nil, append_assoc, length-append}
+use Rattle.std.specs.Cmp.{first_so, second_so}
 use Rattle.cm_text.specs.Bytes.{is_mark, is_space, is_quote, is_word_byte, is_in_line, begins_with}
 use Rattle.cm_text.specs.Token.{mark, quoted, word, Piece, token, space, line_comment, block_comment, char_bytes, piece_bytes}
 use Rattle.cm_text.specs.Split.{is_char, is_piece, may_follow}
-use Rattle.cm_text.proofs.ByteLemmas.{both_left, both_right}
 use Rattle.cm_text.proofs.pieces.SoundLemmas.{Stands}
 
 -- ---- ASCII
@@ -41,8 +41,8 @@ behind_byte xs c rest u h =
 
 -- the last of some bytes that all pass a test
 last_of : (p : ℕ → Bool) (b : ℕ) (bs : List ℕ) → list_all p (b ∷ bs) ≡ true → (xs : List ℕ) × (c : ℕ) × (b ∷ bs ≡ xs ++ c ∷ []) × (p c ≡ true)
-last_of p b [] h = ([], b, refl, both_left (p b) true h)
-last_of p b (d ∷ bs) h = let l = last_of p d bs (both_right (p b) (list_all p (d ∷ bs)) h) in (b ∷ l.0, l.1, ap (λ ys. b ∷ ys) l.2, l.3)
+last_of p b [] h = ([], b, refl, first_so (p b) true h)
+last_of p b (d ∷ bs) h = let l = last_of p d bs (second_so (p b) (list_all p (d ∷ bs)) h) in (b ∷ l.0, l.1, ap (λ ys. b ∷ ys) l.2, l.3)
 
 behind_word : (b : ℕ) (bs rest : List ℕ) → list_all is_word_byte (b ∷ bs) ≡ true → IsUtf8 ((b ∷ bs) ++ rest) → IsCharBoundary ((b ∷ bs) ++ rest) (length (b ∷ bs))
 behind_word b bs rest h u =
@@ -66,9 +66,9 @@ behind_line xs (c ∷ rest) h =
 -- a text may be cut behind a piece that it begins with
 pub cut_behind : (p : Piece) (rest : List ℕ) → is_piece p ≡ true → may_follow p rest ≡ true → IsUtf8 (piece_bytes p ++ rest) → IsCharBoundary (piece_bytes p ++ rest) (length (piece_bytes p))
 cut_behind (token (mark b)) rest h f u = behind_byte [] b rest u (mark_ascii b h)
-cut_behind (token (quoted q cs)) rest h f u = behind_byte (q ∷ flat_map char_bytes cs) q rest u (quote_ascii q (both_left (is_quote q) (list_all (is_char q) cs) h))
+cut_behind (token (quoted q cs)) rest h f u = behind_byte (q ∷ flat_map char_bytes cs) q rest u (quote_ascii q (first_so (is_quote q) (list_all (is_char q) cs) h))
 cut_behind (token (word [])) rest h f u = absurd (grind (arith, rules))
-cut_behind (token (word (b ∷ bs))) rest h f u = behind_word b bs rest (both_right (not (length (b ∷ bs) == 0)) (list_all is_word_byte (b ∷ bs)) h) u
+cut_behind (token (word (b ∷ bs))) rest h f u = behind_word b bs rest (second_so (not (length (b ∷ bs) == 0)) (list_all is_word_byte (b ∷ bs)) h) u
 cut_behind (space b) rest h f u = behind_byte [] b rest u (space_ascii b h)
 cut_behind (line_comment bs) rest h f u = behind_line (47 ∷ 47 ∷ bs) rest f
 cut_behind (block_comment bs) rest h f u =

@@ -2,6 +2,8 @@
 use Rattle.std.proofs.Common.{◌≡◌, ℕ, ◌+◌, List, [], ◌∷◌, ◌++◌, length, Bool, true, false, not, ◌&&◌, ◌||◌, ◌==◌, Option, Some, None, option_map, Err, IsTrue, refl, sym, ap, ◌∙◌, arith, eqb-true, inl, inr}
 use Rattle.std.proofs.lemmas.Option.{none-some}
 use Rattle.std.specs.List.{list_all, flat_map}
+use Rattle.std.specs.Cmp.{first_so, second_so}
+use Rattle.std.proofs.lemmas.Bool.{not-true}
 use Rattle.cm_text.specs.Bytes.{is_mark, is_space, is_quote, is_word_byte, begins_with}
 use Rattle.cm_text.specs.Token.{Char, plain, taken, Piece, char_bytes}
 use Rattle.cm_text.specs.TokenInside.{bytes_of}
@@ -10,7 +12,7 @@ use Rattle.cm_text.specs.Pieces.{chars, comment, stray, unclosed, string_piece, 
 use Rattle.cm_text.specs.Facts.{FaultsAreComputed}
 use Rattle.cm_text.specs.declared.fault.TextFault.{TextFault}
 use Rattle.cm_text.specs.declared.fault.TextFault.TheVariants.{BadToken, Unclosed, Memory as OutOfMemory}
-use Rattle.cm_text.proofs.ByteLemmas.{quote_class, both_left, both_right, not_true, either_left, either_right}
+use Rattle.cm_text.proofs.ByteLemmas.{quote_class, either_left, either_right}
 use Rattle.cm_text.proofs.pieces.PieceLemmas.{with_pieces, first_ones, same_option}
 
 -- ---- faults
@@ -109,15 +111,15 @@ with_fault (p ∷ ps) e = ap (with_piece p) (with_fault ps e)
 stray_of : (b : ℕ) (bs : List ℕ) → begins_nothing b bs ≡ true → first_piece b bs ≡ stray
 stray_of b bs h =
     let slash : Bool = not ((b == 47) && begins_with (λ c. (c == 47) || (c == 42)) bs) in
-    let four : (not (is_mark b) && not (is_space b) && not (is_quote b) && not (is_word_byte b)) ≡ true = both_left (not (is_mark b) && not (is_space b) && not (is_quote b) && not (is_word_byte b)) slash h in
-    let three : (not (is_mark b) && not (is_space b) && not (is_quote b)) ≡ true = both_left (not (is_mark b) && not (is_space b) && not (is_quote b)) (not (is_word_byte b)) four in
-    let two : (not (is_mark b) && not (is_space b)) ≡ true = both_left (not (is_mark b) && not (is_space b)) (not (is_quote b)) three in
+    let four : (not (is_mark b) && not (is_space b) && not (is_quote b) && not (is_word_byte b)) ≡ true = first_so (not (is_mark b) && not (is_space b) && not (is_quote b) && not (is_word_byte b)) slash h in
+    let three : (not (is_mark b) && not (is_space b) && not (is_quote b)) ≡ true = first_so (not (is_mark b) && not (is_space b) && not (is_quote b)) (not (is_word_byte b)) four in
+    let two : (not (is_mark b) && not (is_space b)) ≡ true = first_so (not (is_mark b) && not (is_space b)) (not (is_quote b)) three in
     stray_at b bs (b == 47) refl
-    (not_true (is_mark b) (both_left (not (is_mark b)) (not (is_space b)) two))
-    (not_true (is_space b) (both_right (not (is_mark b)) (not (is_space b)) two))
-    (not_true (is_quote b) (both_right (not (is_mark b) && not (is_space b)) (not (is_quote b)) three))
-    (not_true (is_word_byte b) (both_right (not (is_mark b) && not (is_space b) && not (is_quote b)) (not (is_word_byte b)) four))
-    (not_true ((b == 47) && begins_with (λ c. (c == 47) || (c == 42)) bs) (both_right (not (is_mark b) && not (is_space b) && not (is_quote b) && not (is_word_byte b)) slash h))
+    (not-true (is_mark b) (first_so (not (is_mark b)) (not (is_space b)) two))
+    (not-true (is_space b) (second_so (not (is_mark b)) (not (is_space b)) two))
+    (not-true (is_quote b) (second_so (not (is_mark b) && not (is_space b)) (not (is_quote b)) three))
+    (not-true (is_word_byte b) (second_so (not (is_mark b) && not (is_space b) && not (is_quote b)) (not (is_word_byte b)) four))
+    (not-true ((b == 47) && begins_with (λ c. (c == 47) || (c == 42)) bs) (second_so (not (is_mark b) && not (is_space b) && not (is_quote b) && not (is_word_byte b)) slash h))
 
 at_stray : (rest : List ℕ) (at : ℕ) → BeginsNothing rest → pieces 0 at rest ≡ Err (BadToken at)
 unfolding pieces
@@ -137,7 +139,7 @@ then_unclosed b bs at e = ap (λ f. piece_then at f (λ n. pieces n (at + 1) bs)
 at_unclosed : (rest : List ℕ) (at : ℕ) → NeverEnds rest → pieces 0 at rest ≡ Err (Unclosed at)
 at_unclosed [] at h = absurd h
 at_unclosed (b ∷ bs) at (inl h) = then_unclosed b bs at (at_string b bs h.0 h.1)
-at_unclosed (b ∷ bs) at (inr h) = ap (pieces 0 at) h.1 ∙ then_unclosed 47 (42 ∷ h.0) at (at_comment h.0 (not_true (has_end h.0) h.2))
+at_unclosed (b ∷ bs) at (inr h) = ap (pieces 0 at) h.1 ∙ then_unclosed 47 (42 ∷ h.0) at (at_comment h.0 (not-true (has_end h.0) h.2))
 
 found_fault : (text rest : List ℕ) (ps : List Piece) (e : TextFault) → SplitsInto text ps rest → pieces 0 (length (bytes_of ps)) rest ≡ Err e → tokens text ≡ Err e
 found_fault text rest ps e h f =

@@ -2,6 +2,8 @@
 use Rattle.std.proofs.Common.{◌≡◌, ℕ, ◌+◌, ◌-◌, List, [], ◌∷◌, ◌++◌, length, Bool, true, false, not, ◌&&◌, ◌==◌, Option, Some, None, option_map, Result, Ok, Err, refl, sym, ap, ◌∙◌, arith, rules, take_while, one-add}
 use Rattle.std.specs.List.{list_all, flat_map}
 use Rattle.std.proofs.lemmas.List.{append_assoc, length-append}
+use Rattle.std.specs.Cmp.{first_so, second_so}
+use Rattle.std.proofs.lemmas.Bool.{not-true}
 use Rattle.cm_text.specs.Bytes.{is_quote, is_word_byte, is_in_line, begins_with, closes_comment}
 use Rattle.cm_text.specs.Token.{Char, plain, taken, Token, mark, quoted, word, Piece, token, space, line_comment, block_comment, char_bytes, piece_bytes}
 use Rattle.cm_text.specs.TokenInside.{bytes_of}
@@ -9,7 +11,7 @@ use Rattle.cm_text.specs.Split.{is_char, has_end, is_piece, may_follow, are_piec
 use Rattle.cm_text.specs.Pieces.{chars, comment, piece, first_piece, with_piece, pieces, tokens_result}
 use Rattle.cm_text.specs.Facts.{TokensAreUnique, TokensAreComputed}
 use Rattle.cm_text.specs.declared.fault.TextFault.{TextFault}
-use Rattle.cm_text.proofs.ByteLemmas.{mark_class, space_class, quote_class, word_class, slash_no_quote, same, both_left, both_right, not_true, either_left, either_right}
+use Rattle.cm_text.proofs.ByteLemmas.{mark_class, space_class, quote_class, word_class, slash_no_quote, same, either_left, either_right}
 
 -- ---- what stands in front
 
@@ -23,7 +25,7 @@ run_ends p (b ∷ bs) h = rw h refl
 
 pub run_of : (p : ℕ → Bool) (bs rest : List ℕ) → list_all p bs ≡ true → begins_with p rest ≡ false → take_while p (bs ++ rest) ≡ bs
 run_of p [] rest h e = run_ends p rest e
-run_of p (b ∷ bs) rest h e = run_more p b (bs ++ rest) (both_left (p b) (list_all p bs) h) ∙ ap (λ xs. b ∷ xs) (run_of p bs rest (both_right (p b) (list_all p bs) h) e)
+run_of p (b ∷ bs) rest h e = run_more p b (bs ++ rest) (first_so (p b) (list_all p bs) h) ∙ ap (λ xs. b ∷ xs) (run_of p bs rest (second_so (p b) (list_all p bs) h) e)
 
 -- no byte is put in front
 pub same_option : (o : Option (List Char)) → option_map (λ cs. [] ++ cs) o ≡ o
@@ -34,10 +36,10 @@ pub chars_of : (q : ℕ) (cs : List Char) (rest : List ℕ) → is_quote q ≡ t
 unfolding chars
 chars_of q [] rest quote h = rw (chars, same q) refl
 chars_of q (plain b ∷ cs) rest quote h =
-    let here : (not (b == q) && not (b == 92)) ≡ true = both_left (not (b == q) && not (b == 92)) (list_all (is_char q) cs) h in
-    let no_quote : (b == q) ≡ false = not_true (b == q) (both_left (not (b == q)) (not (b == 92)) here) in
-    let no_slash : (b == 92) ≡ false = not_true (b == 92) (both_right (not (b == q)) (not (b == 92)) here) in
-    rw (chars, no_quote) (rw no_slash (ap (option_map (λ xs. plain b ∷ xs)) (chars_of q cs rest quote (both_right (not (b == q) && not (b == 92)) (list_all (is_char q) cs) h))))
+    let here : (not (b == q) && not (b == 92)) ≡ true = first_so (not (b == q) && not (b == 92)) (list_all (is_char q) cs) h in
+    let no_quote : (b == q) ≡ false = not-true (b == q) (first_so (not (b == q)) (not (b == 92)) here) in
+    let no_slash : (b == 92) ≡ false = not-true (b == 92) (second_so (not (b == q)) (not (b == 92)) here) in
+    rw (chars, no_quote) (rw no_slash (ap (option_map (λ xs. plain b ∷ xs)) (chars_of q cs rest quote (second_so (not (b == q) && not (b == 92)) (list_all (is_char q) cs) h))))
 chars_of q (taken b ∷ cs) rest quote h =
     rw (chars, slash_no_quote q quote) (same_option (chars q true (b ∷ (flat_map char_bytes cs ++ q ∷ rest))) ∙ ap (option_map (λ xs. taken b ∷ xs)) (chars_of q cs rest quote h))
 
@@ -81,20 +83,20 @@ one_piece b tail rest p at bytes first =
 pub first_one : (p : Piece) (rest : List ℕ) (at : ℕ) → is_piece p ≡ true → may_follow p rest ≡ true → pieces 0 at (piece_bytes p ++ rest) ≡ with_piece p (pieces 0 (at + length (piece_bytes p)) rest)
 first_one (token (mark b)) rest at h f = one_piece b [] rest (token (mark b)) at refl (rw (mark_class b h) refl)
 first_one (token (quoted q cs)) rest at h f =
-    let quote : is_quote q ≡ true = both_left (is_quote q) (list_all (is_char q) cs) h in
-    let found : chars q false ((flat_map char_bytes cs ++ q ∷ []) ++ rest) ≡ Some cs = ap (chars q false) (append_assoc (flat_map char_bytes cs) (q ∷ []) rest) ∙ chars_of q cs rest quote (both_right (is_quote q) (list_all (is_char q) cs) h) in
+    let quote : is_quote q ≡ true = first_so (is_quote q) (list_all (is_char q) cs) h in
+    let found : chars q false ((flat_map char_bytes cs ++ q ∷ []) ++ rest) ≡ Some cs = ap (chars q false) (append_assoc (flat_map char_bytes cs) (q ∷ []) rest) ∙ chars_of q cs rest quote (second_so (is_quote q) (list_all (is_char q) cs) h) in
     one_piece q (flat_map char_bytes cs ++ q ∷ []) rest (token (quoted q cs)) at refl (rw (quote_class q quote) (rw found refl))
 first_one (token (word [])) rest at h f = absurd (grind (arith, rules))
 first_one (token (word (b ∷ bs))) rest at h f =
-    let all : list_all is_word_byte (b ∷ bs) ≡ true = both_right (not (length (b ∷ bs) == 0)) (list_all is_word_byte (b ∷ bs)) h in
-    let found : take_while is_word_byte (bs ++ rest) ≡ bs = run_of is_word_byte bs rest (both_right (is_word_byte b) (list_all is_word_byte bs) all) (not_true (begins_with is_word_byte rest) f) in
-    one_piece b bs rest (token (word (b ∷ bs))) at refl (rw (word_class b (both_left (is_word_byte b) (list_all is_word_byte bs) all)) (rw found refl))
+    let all : list_all is_word_byte (b ∷ bs) ≡ true = second_so (not (length (b ∷ bs) == 0)) (list_all is_word_byte (b ∷ bs)) h in
+    let found : take_while is_word_byte (bs ++ rest) ≡ bs = run_of is_word_byte bs rest (second_so (is_word_byte b) (list_all is_word_byte bs) all) (not-true (begins_with is_word_byte rest) f) in
+    one_piece b bs rest (token (word (b ∷ bs))) at refl (rw (word_class b (first_so (is_word_byte b) (list_all is_word_byte bs) all)) (rw found refl))
 first_one (space b) rest at h f = one_piece b [] rest (space b) at refl (rw (space_class b h) refl)
 first_one (line_comment bs) rest at h f =
-    let found : take_while is_in_line (bs ++ rest) ≡ bs = run_of is_in_line bs rest h (not_true (begins_with is_in_line rest) f) in
+    let found : take_while is_in_line (bs ++ rest) ≡ bs = run_of is_in_line bs rest h (not-true (begins_with is_in_line rest) f) in
     one_piece 47 (47 ∷ bs) rest (line_comment bs) at refl (rw found refl)
 first_one (block_comment bs) rest at h f =
-    let found : comment ((bs ++ 42 ∷ 47 ∷ []) ++ rest) ≡ Some bs = ap comment (append_assoc bs (42 ∷ 47 ∷ []) rest) ∙ comment_of bs rest (not_true (has_end (bs ++ 42 ∷ [])) h) in
+    let found : comment ((bs ++ 42 ∷ 47 ∷ []) ++ rest) ≡ Some bs = ap comment (append_assoc bs (42 ∷ 47 ∷ []) rest) ∙ comment_of bs rest (not-true (has_end (bs ++ 42 ∷ [])) h) in
     one_piece 47 (42 ∷ (bs ++ 42 ∷ 47 ∷ [])) rest (block_comment bs) at refl (rw found refl)
 
 -- the pieces before a rest are computed first
@@ -105,11 +107,11 @@ with_pieces (p ∷ ps) r = with_piece p (with_pieces ps r)
 pub first_ones : (ps : List Piece) (rest : List ℕ) (at : ℕ) → are_pieces ps rest ≡ true → pieces 0 at (bytes_of ps ++ rest) ≡ with_pieces ps (pieces 0 (at + length (bytes_of ps)) rest)
 first_ones [] rest at h = ap (λ n. pieces 0 n rest) (omega arith)
 first_ones (p ∷ ps) rest at h =
-    let two : (is_piece p && may_follow p (bytes_of ps ++ rest)) ≡ true = both_left (is_piece p && may_follow p (bytes_of ps ++ rest)) (are_pieces ps rest) h in
-    let more : are_pieces ps rest ≡ true = both_right (is_piece p && may_follow p (bytes_of ps ++ rest)) (are_pieces ps rest) h in
+    let two : (is_piece p && may_follow p (bytes_of ps ++ rest)) ≡ true = first_so (is_piece p && may_follow p (bytes_of ps ++ rest)) (are_pieces ps rest) h in
+    let more : are_pieces ps rest ≡ true = second_so (is_piece p && may_follow p (bytes_of ps ++ rest)) (are_pieces ps rest) h in
     let moved : at + length (piece_bytes p) + length (bytes_of ps) ≡ at + length (bytes_of (p ∷ ps)) = rw (length-append (piece_bytes p) (bytes_of ps)) (omega arith) in
     ap (pieces 0 at) (append_assoc (piece_bytes p) (bytes_of ps) rest)
-    ∙ first_one p (bytes_of ps ++ rest) at (both_left (is_piece p) (may_follow p (bytes_of ps ++ rest)) two) (both_right (is_piece p) (may_follow p (bytes_of ps ++ rest)) two)
+    ∙ first_one p (bytes_of ps ++ rest) at (first_so (is_piece p) (may_follow p (bytes_of ps ++ rest)) two) (second_so (is_piece p) (may_follow p (bytes_of ps ++ rest)) two)
     ∙ ap (with_piece p) (first_ones ps rest (at + length (piece_bytes p)) more ∙ ap (λ n. with_pieces ps (pieces 0 n rest)) moved)
 
 all_pieces : (ps : List Piece) (at : ℕ) → with_pieces ps (pieces 0 at []) ≡ Ok ps

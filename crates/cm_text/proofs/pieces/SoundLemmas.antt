@@ -3,11 +3,11 @@ use Rattle.std.proofs.Common.{◌≡◌, ℕ, suc, List, [], ◌∷◌, ◌++◌
 use Rattle.std.proofs.lemmas.Option.{none-some}
 use Rattle.std.specs.List.{list_all, flat_map}
 use Rattle.std.proofs.lemmas.List.{append_assoc}
+use Rattle.std.specs.Cmp.{first_so, second_so}
 use Rattle.cm_text.specs.Bytes.{is_mark, is_space, is_quote, is_word_byte, is_in_line, begins_with, closes_comment}
 use Rattle.cm_text.specs.Token.{Char, mark, quoted, word, Piece, token, space, line_comment, block_comment, char_bytes, piece_bytes}
 use Rattle.cm_text.specs.Split.{has_end, is_piece, may_follow, NeverCloses, NeverEnds, begins_nothing}
 use Rattle.cm_text.specs.Pieces.{chars, comment, stray, unclosed, piece, string_piece, block_piece, comment_piece, Class, mark_byte, space_byte, quote_byte, word_byte, slash, other, class, first_of, first_piece}
-use Rattle.cm_text.proofs.ByteLemmas.{both_left, both_right}
 use Rattle.cm_text.proofs.pieces.PieceLemmas.{run_more, run_ends, chars_of, begins_same, comment_here, comment_later}
 use Rattle.cm_text.proofs.pieces.FaultLemmas.{Closes, closes}
 
@@ -54,7 +54,7 @@ star_slash : (b : ℕ) (bs : List ℕ) → closes_comment (b ∷ bs) ≡ true �
 star_slash b [] h = absurd (grind (arith, rules))
 star_slash b (c ∷ bs) h = record {
   rest = bs;
-  bytes = ap (λ x. x ∷ c ∷ bs) (eqb-true b 42 (both_left (b == 42) (c == 47) h)) ∙ ap (λ x. 42 ∷ x ∷ bs) (eqb-true c 47 (both_right (b == 42) (c == 47) h));
+  bytes = ap (λ x. x ∷ c ∷ bs) (eqb-true b 42 (first_so (b == 42) (c == 47) h)) ∙ ap (λ x. 42 ∷ x ∷ bs) (eqb-true c 47 (second_so (b == 42) (c == 47) h));
   first = refl;
 }
 

@@ -1,9 +1,8 @@
 -- The rows that stand behind one, and what is taken from row after row.
 use Rattle.std.proofs.Common.{◌≡◌, ℕ, suc, ◌<◌, List, [], ◌∷◌, ◌++◌, Bool, true, false, cond, ◌&&◌, ◌==◌, Option, Some, None, IsSome, is_some, find, filter, map, length, option_map, option_to_list, refl, sym, ◌∙◌, ap, subst, arith, append_assoc, append-nil}
 use Rattle.std.specs.List.{cons_option, filter_map}
-use Rattle.std.specs.Cmp.{unsigned_Decides}
+use Rattle.std.specs.Cmp.{unsigned_Decides, first_so, second_so}
 use Rattle.std.proofs.lemmas.Bool.{lt-ltb, le-ltb, ltb-true}
-use Rattle.cm_decl.proofs.Sameness.{and_first, and_second}
 use Rattle.cm_world.specs.declared.row.Row.{Row}
 use Rattle.cm_world.specs.Rows.{row_of}
 use Rattle.cm_world.specs.RowsInside.{is_behind}
@@ -102,8 +101,8 @@ row_by p after rows next j (Some r) increasing f e = record {
   found = f;
   lives = subst (λ i. row_of rows i ≡ Some r) (some_same r.inc j e) (find-lives (λ s. p s && is_behind after s.inc) rows next r increasing f);
   inc = some_same r.inc j e;
-  passes = and_first (p r) (is_behind after r.inc) (find-passes (λ s. p s && is_behind after s.inc) rows r f);
-  later = subst (λ i. is_behind after i ≡ true) (some_same r.inc j e) (and_second (p r) (is_behind after r.inc) (find-passes (λ s. p s && is_behind after s.inc) rows r f));
+  passes = first_so (p r) (is_behind after r.inc) (find-passes (λ s. p s && is_behind after s.inc) rows r f);
+  later = subst (λ i. is_behind after i ≡ true) (some_same r.inc j e) (second_so (p r) (is_behind after r.inc) (find-passes (λ s. p s && is_behind after s.inc) rows r f));
 }
 
 pub is_next : (p : Row → Bool) (after : Option ℕ) (rows : List Row) (next j : ℕ) → IsOrderly rows next → next_of p after rows ≡ Some j → IsNext p after rows j

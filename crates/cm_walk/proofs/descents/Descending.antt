@@ -1,14 +1,14 @@
 -- From a row to all below it, by increasing incarnations: those that are found so far, and a set of those ahead.
-use Rattle.std.proofs.Common.{◌≡◌, ℕ, ◌+◌, ◌-◌, ◌<◌, ◌≤◌, List, [], ◌∷◌, ◌++◌, Bool, true, false, cond, ◌&&◌, ◌||◌, ◌==◌, nat_eq, nat_lt, true≢false, Option, Some, None, is_some, IsTrue, find, map, length, option_map, refl, sym, ◌∙◌, ap, subst, inl, inr, ◌⊎◌, arith, length-append}
+use Rattle.std.proofs.Common.{◌≡◌, ℕ, ◌+◌, ◌-◌, ◌<◌, ◌≤◌, List, [], ◌∷◌, ◌++◌, Bool, true, false, cond, ◌&&◌, ◌||◌, ◌==◌, nat_eq, nat_lt, true≢false, Option, Some, None, is_some, IsTrue, find, map, length, option_map, refl, sym, ◌∙◌, ap, subst, inl, inr, ◌⊎◌, arith, length-append, ne_of_lt}
 use Rattle.std.specs.BTreeSet.{BTreeSet}
-use Rattle.std.specs.Cmp.{unsigned_Decides}
+use Rattle.std.specs.Cmp.{unsigned_Decides, first_so, second_so}
 use Rattle.std.specs.List.{filter_map, list_any}
 use Rattle.std.specs.Option.{option_map_or, option_eq}
 use Rattle.std.specs.Ordering.{is_eq, is_gt, nat_cmp}
 use Rattle.std.proofs.lemmas.Bool.{lt-ltb, ltb-true, ltb-false}
 use Rattle.std.proofs.lemmas.Map.Keys.{le_from_not_gt}
 use Rattle.std.proofs.lemmas.Bool.{or_left, or_right, and_from}
-use Rattle.cm_decl.proofs.Sameness.{and_first, and_second, or_split}
+use Rattle.cm_decl.proofs.Sameness.{or_split}
 use Rattle.cm_world.specs.declared.row.Row.{Row}
 use Rattle.cm_world.specs.Rows.{row_of, is_live, has_parent, is_below, subtree}
 use Rattle.cm_world.specs.RowsInside.{is_behind}
@@ -51,8 +51,8 @@ tested rows top i after r lives it =
 
 only_top : (rows : List Row) (next top i : ℕ) → IsOrderly rows next → IsTrue (is_live rows top && i == top) → IsAfter rows top None i
 only_top rows next top i orderly here =
-    let same : i ≡ top = (unsigned_Decides i top).0 (and_second (is_live rows top) (i == top) here) in
-    live_top (row_of rows top) refl (and_first (is_live rows top) (i == top) here) same
+    let same : i ≡ top = (unsigned_Decides i top).0 (second_so (is_live rows top) (i == top) here) in
+    live_top (row_of rows top) refl (first_so (is_live rows top) (i == top) here) same
   where
     live_top : (o : Option Row) → row_of rows top ≡ o → IsTrue (is_some o) → i ≡ top → IsAfter rows top None i
     live_top None e live same = absurd (true≢false (sym live))
@@ -79,7 +79,7 @@ first_there : (rows : List Row) (next top : ℕ) (after : Option ℕ) (ahead : B
 first_there rows next top after ahead r orderly frontier found =
     let test : Row → Bool = λ s. is_in rows top s && is_behind after s.inc in
     let passes : IsTrue (test r) = find-passes test rows r found in
-    elim (frontier.reach r.inc (record { below = and_first (is_in rows top r) (is_behind after r.inc) passes; later = and_second (is_in rows top r) (is_behind after r.inc) passes })) [
+    elim (frontier.reach r.inc (record { below = first_so (is_in rows top r) (is_behind after r.inc) passes; later = second_so (is_in rows top r) (is_behind after r.inc) passes })) [
       | inl there ↦ there
       | inr u ↦
           let parent : IsParent rows u.up r.inc = (orderly.parents r.inc u.up u.row u.lives u.parent).0 in
@@ -116,9 +116,6 @@ lower j q low apart = by (nat_lt j q) refl where
   by : (t : Bool) → nat_lt j q ≡ t → j < q
   by true e = ltb-true j q e
   by false e = let high : q ≤ j = ltb-false j q e in absurd (apart (omega arith))
-
-not_less : (j q : ℕ) → j < q → j ≡ q → ⊥
-not_less j q up same = omega arith
 
 -- what is still in the set without one was there, and is another
 stays : (j q : ℕ) (t there : Bool) → is_eq (nat_cmp j q) ≡ t → IsTrue (cond t false there) → IsTrue there × (j ≡ q → ⊥)
@@ -185,7 +182,7 @@ ahead_more rows next top j after ahead rest more orderly frontier member first p
   reach i it =
       let up : j < i = ltb-true j i it.later in
       elim (frontier.reach i (record { below = it.below; later = behind_more after j i (frontier.within j member).later up })) [
-        | inl there ↦ inl (put i ∙ or_left (is_in_set rest i) (is_child rows j i) (popped i ∙ ap (λ b. cond b false (is_in_set ahead i)) (cmp_apart j i (λ same. not_less j i up same)) ∙ there))
+        | inl there ↦ inl (put i ∙ or_left (is_in_set rest i) (is_child rows j i) (popped i ∙ ap (λ b. cond b false (is_in_set ahead i)) (cmp_apart j i (λ same. ne_of_lt up same)) ∙ there))
         | inr u ↦ elim (under_next rows top j i (nat_lt j u.up) after u (least i u) refl) [
           | inl child ↦ inl (put i ∙ or_right (is_in_set rest i) (is_child rows j i) child)
           | inr on ↦ inr on

@@ -1,5 +1,5 @@
 -- One station of a walk, and the whole of it.
-use Rattle.std.proofs.Common.{◌≡◌, ℕ, ◌<◌, List, [], ◌∷◌, ◌++◌, true, false, true≢false, Option, Some, None, Result, Ok, Err, IfOk, refl, sym, ◌∙◌, ap, subst}
+use Rattle.std.proofs.Common.{◌≡◌, ℕ, ◌<◌, List, [], ◌∷◌, ◌++◌, true, false, true≢false, Option, Some, None, refl, sym, ◌∙◌, ap, subst}
 use Rattle.cm_decl.specs.Clashes.{or_else}
 use Rattle.cm_world.specs.declared.row.Row.{Row}
 use Rattle.cm_world.specs.declared.frame.Builtin.{Builtin}
@@ -130,7 +130,3 @@ ends_way rows builtins first t u here v step way is made =
     way.whole v (record { rest = []; chain = tt; decided = done })
 
 -- ---- answers that may be out of memory
-
-pub if_ok : {A E : Type 0} (P Q : A → Type 0) (r : Result A E) → ((x : A) → P x → Q x) → IfOk r P → IfOk r Q
-if_ok P Q (Ok x) more it = more x it
-if_ok P Q (Err e) more it = it

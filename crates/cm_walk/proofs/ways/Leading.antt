@@ -1,15 +1,16 @@
 -- Where a moniker leads, name by name.
-use Rattle.std.proofs.Common.{◌≡◌, ℕ, zero, suc, ◌+◌, ◌*◌, ◌<◌, ◌≤◌, List, [], ◌∷◌, ◌++◌, length, take, drop, get_or, Bool, true, false, cond, not, ◌&&◌, ◌||◌, ◌==◌, true≢false, Option, Some, None, is_some, IsTrue, refl, sym, ◌∙◌, ap, subst, arith, find, option_map, option_and_then, option_to_list, nat_eq}
+use Rattle.std.proofs.Common.{◌≡◌, ℕ, zero, suc, ◌+◌, ◌*◌, ◌<◌, ◌≤◌, List, [], ◌∷◌, ◌++◌, length, take, drop, get_or, Bool, true, false, cond, not, ◌&&◌, ◌==◌, true≢false, Option, Some, None, is_some, IsTrue, refl, sym, ◌∙◌, ap, subst, arith, find, option_map, option_and_then, option_to_list, nat_eq}
 use Rattle.std.specs.Prelude.{if◌then◌else◌}
 use Rattle.std.specs.Option.{option_eq}
-use Rattle.std.specs.Cmp.{unsigned_Decides}
+use Rattle.std.specs.Cmp.{unsigned_Decides, first_so, second_so}
 use Rattle.std.proofs.lemmas.List.{length-append, take_at, drop_at, append_assoc, drop_more}
+use Rattle.std.proofs.lemmas.Bool.{or_parts, not-true, not-false}
 use Rattle.cm_names.specs.declared.child.ChildName.{ChildName}
 use Rattle.cm_names.specs.declared.moniker.Moniker.{Moniker}
 use Rattle.cm_names.specs.MonikerInside.{MonikerStartsWith}
 use Rattle.cm_decl.specs.Same.{same_child}
 use Rattle.cm_decl.specs.declared.node.Node.TheVariants.{Child}
-use Rattle.cm_decl.proofs.Sameness.{and_first, and_second, same_child_exact, same_node-refl}
+use Rattle.cm_decl.proofs.Sameness.{same_child_exact, same_node-refl}
 use Rattle.cm_world.specs.declared.row.Row.{Row}
 use Rattle.cm_world.specs.declared.store.Located.{Located}
 use Rattle.cm_world.specs.declared.store.Located.TheVariants.{Unresolved, Missing}
@@ -110,10 +111,6 @@ all_three true true true one two three = absurd (true≢false three)
 all_three true false d one two three = absurd (true≢false (sym two))
 all_three false b d one two three = absurd (true≢false (sym one))
 
-not_true : (b : Bool) → not b ≡ true → b ≡ false
-not_true true h = sym h
-not_true false h = refl
-
 name_is : (c : ChildName) (o : Option ChildName) → option_eq same_child o (Some c) ≡ true → o ≡ Some c
 name_is c None h = absurd (true≢false (sym h))
 name_is c (Some d) h = ap Some (same_child_exact d c h)
@@ -122,12 +119,12 @@ child_by : (rows : List Row) (next p i : ℕ) (c : ChildName) (r : Row) (o : Opt
 child_by rows next p i c r None orderly lives up named undoomed found some = absurd (true≢false (sym some))
 child_by rows next p i c r (Some s) orderly lives up named undoomed found some =
     let passes = find-passes (λ t. has_parent p t && has_name c t && not t.doomed) rows s found in
-    let two = and_first (has_parent p s && has_name c s) (not s.doomed) passes in
+    let two = first_so (has_parent p s && has_name c s) (not s.doomed) passes in
     ap Some (sym (orderly.one_name i s.inc r s lives
     (find-lives (λ t. has_parent p t && has_name c t && not t.doomed) rows next s orderly.increasing found)
-    undoomed (not_true s.doomed (and_second (has_parent p s && has_name c s) (not s.doomed) passes))
-    (up ∙ sym (parent_is p s.parent (and_first (has_parent p s) (has_name c s) two)))
-    (named ∙ sym (name_is c s.name (and_second (has_parent p s) (has_name c s) two)))))
+    undoomed (not-true s.doomed (second_so (has_parent p s && has_name c s) (not s.doomed) passes))
+    (up ∙ sym (parent_is p s.parent (first_so (has_parent p s) (has_name c s) two)))
+    (named ∙ sym (name_is c s.name (second_so (has_parent p s) (has_name c s) two)))))
 
 -- a row that isn't doomed is the child of its name
 child_is : (rows : List Row) (next p i : ℕ) (c : ChildName) (r : Row) → IsOrderly rows next → row_of rows i ≡ Some r → r.parent ≡ Some p → r.name ≡ Some c → r.doomed ≡ false → child_of rows p c ≡ Some i
@@ -137,10 +134,6 @@ child_is rows next p i c r orderly lives up named undoomed =
     (all_three (has_parent p r) (has_name c r) r.doomed
     (ap (λ o. option_eq nat_eq o (Some p)) up ∙ (unsigned_Decides p p).1 refl)
     (ap (λ o. option_eq same_child o (Some c)) named ∙ same_node-refl (Child c)) undoomed))
-
-or_false : (a b : Bool) → (a || b) ≡ false → (a ≡ false) × (b ≡ false)
-or_false true b h = absurd (true≢false h)
-or_false false b h = (refl, h)
 
 -- the names of row i lead to it, whatever stands behind them
 abbrev IsLed : List Row → ℕ → Type 0
@@ -171,7 +164,7 @@ led_by rows next i r (Some p) None orderly lives up named above before rest =
     absurd (true≢false (sym (orderly.parents i p r lives up).1 ∙ ap is_some named))
 led_by rows next i r (Some p) (Some c) orderly lives up named above before rest =
     let parent = (orderly.parents i p r lives up).0 in
-    let apart = or_false r.doomed (at_or_above (length rows) (λ s. s.doomed) rows r.parent) (sym (some_above-step (λ s. s.doomed) rows next i r orderly lives) ∙ above) in
+    let apart = or_parts r.doomed (at_or_above (length rows) (λ s. s.doomed) rows r.parent) (sym (some_above-step (λ s. s.doomed) rows next i r orderly lives) ∙ above) in
     led_below rows p i c (names_to (length rows) rows (Some p)) (names_to (length rows) rows (Some i)) rest
     (names_to-step rows next i r orderly lives ∙ ap (λ o. names_to (length rows) rows o ++ option_to_list r.name) up
     ∙ ap (λ o. names_to (length rows) rows (Some p) ++ option_to_list o) named)
@@ -190,15 +183,11 @@ led_upto (suc n) rows next i low orderly lives above =
     led_from rows next i (row_of rows i) orderly refl lives above
     (λ p less there apart. led_upto n rows next p (omega arith) orderly there apart)
 
-not_false : (b : Bool) → not b ≡ false → b ≡ true
-not_false true h = refl
-not_false false h = sym h
-
 -- names that begin with those of a row that isn't gone lead on from there
 pub begins_at : (rows : List Row) (next i : ℕ) (names : List ChildName) (own : Moniker) → IsOrderly rows next → is_gone rows i ≡ false → own ≡ moniker_of rows i → MonikerStartsWith names own.parts → LeadsDownTo rows names i (length own.parts)
 begins_at rows next i names own orderly here is begun =
-    let apart = or_false (not (is_live rows i)) (some_above (λ s. s.doomed) rows i) here in
-    let lives : IsTrue (is_live rows i) = not_false (is_live rows i) apart.0 in
+    let apart = or_parts (not (is_live rows i)) (some_above (λ s. s.doomed) rows i) here in
+    let lives : IsTrue (is_live rows i) = not-false (is_live rows i) apart.0 in
     let named : own.parts ≡ names_to (length rows) rows (Some i) = ap (λ m. m.parts) is in
     record {
       lives = lives;

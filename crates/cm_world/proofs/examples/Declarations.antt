@@ -4,6 +4,7 @@ use Rattle.std.specs.List.{list_any}
 use Rattle.std.specs.Option.{option_eq}
 use Rattle.std.specs.Cmp.Lexicographic.{bytes_decides}
 use Rattle.std.proofs.Math.Bool.{or-false}
+use Rattle.std.specs.Cmp.{first_so}
 use Rattle.cm_names.specs.declared.child.ChildName.{ChildName}
 use Rattle.cm_decl.specs.declared.decl.Decl.{Decl}
 use Rattle.cm_decl.specs.declared.node.Node.{Node}
@@ -16,7 +17,6 @@ use Rattle.cm_decl.specs.Examples.{from_child, no_decl}
 use Rattle.cm_decl.proofs.faults.Computed.{first_fault}
 use Rattle.cm_decl.proofs.faults.FirstFaults.{computes_none}
 use Rattle.cm_decl.proofs.cycles.Reaching.{acyclic_by_ends}
-use Rattle.cm_decl.proofs.Sameness.{and_first}
 use Rattle.cm_world.specs.Examples.{root_decl, logger_decl, client_decl, no_offer_decl, no_expose_decl, l, c}
 use Rattle.cm_world.specs.RouteExamples.{one_child}
 use Rattle.cm_world.specs.ShutdownExamples.{k_decl, x_name}
@@ -25,7 +25,7 @@ use Rattle.cm_world.specs.ShutdownExamples.{k_decl, x_name}
 pub edge_source : (d : Decl) (dynamic : List DynChild) (x y : Node) → StrongOn d dynamic x y → IsTrue (list_any (is_from_node y) (sources_of d dynamic x))
 edge_source d dynamic x y h =
     let by : Bool = list_any (is_from_node y) (sources_of d dynamic x) in
-    and_first by (is_node d dynamic x) (and_first (by && is_node d dynamic x) (is_node d dynamic y) h)
+    first_so by (is_node d dynamic x) (first_so (by && is_node d dynamic x) (is_node d dynamic y) h)
 
 -- ---- declarations in which nothing depends on anything
 

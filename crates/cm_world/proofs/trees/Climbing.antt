@@ -1,6 +1,6 @@
 -- Up the tree, row by row. In an orderly tree there are rows enough for every way up, so what is read of a row and those above
 -- it is what its own row says, and what is read of its parent.
-use Rattle.std.proofs.Common.{◌≡◌, ℕ, zero, suc, ◌+◌, ◌<◌, ◌≤◌, List, [], ◌∷◌, ◌++◌, Bool, true, false, cond, ◌||◌, ◌==◌, nat_lt, true≢false, Option, Some, None, length, option_to_list, refl, sym, ◌∙◌, ap, arith}
+use Rattle.std.proofs.Common.{◌≡◌, ℕ, zero, suc, ◌+◌, ◌<◌, ◌≤◌, List, [], ◌∷◌, ◌++◌, Bool, true, false, cond, ◌||◌, ◌==◌, nat_lt, true≢false, Option, Some, None, length, option_to_list, refl, sym, ◌∙◌, ap, arith, add-lt-add_of_le_of_lt, add-le-add, lt_trans}
 use Rattle.std.specs.Cmp.{unsigned_Decides}
 use Rattle.std.proofs.lemmas.Bool.{lt-ltb, ltb-true, le-ltb}
 use Rattle.cm_names.specs.declared.child.ChildName.{ChildName}
@@ -27,17 +27,11 @@ ones true true a p i low high up = omega arith
 ones true false a p i low high up =
     let less : a < p = ltb-true a p low in absurd (true≢false (sym (lt-ltb a i (omega arith)) ∙ high))
 
-sum_le : (a b n m : ℕ) → a ≤ b → n ≤ m → a + n ≤ b + m
-sum_le a b n m x y = omega arith
-
 rank-le : (rows : List Row) (p i : ℕ) → p < i → rank rows p ≤ rank rows i
 unfolding rank
 rank-le [] p i up = omega arith
 rank-le (r ∷ rs) p i up =
-    sum_le (one_if (nat_lt r.inc p)) (one_if (nat_lt r.inc i)) (rank rs p) (rank rs i) (ones (nat_lt r.inc p) (nat_lt r.inc i) r.inc p i refl refl up) (rank-le rs p i up)
-
-sum_less : (a b n m : ℕ) → a ≤ b → n < m → a + n < b + m
-sum_less a b n m x y = omega arith
+    add-le-add (ones (nat_lt r.inc p) (nat_lt r.inc i) r.inc p i refl refl up) (rank-le rs p i up)
 
 sum_more : (a b n m : ℕ) → a ≡ 0 → b ≡ 1 → n ≤ m → a + n < b + m
 sum_more a b n m x y z = omega arith
@@ -56,7 +50,7 @@ less_by true r q rs p i same up later e =
     let own : r.inc ≡ p = (unsigned_Decides r.inc p).0 same in
     sum_more (one_if (nat_lt r.inc p)) (one_if (nat_lt r.inc i)) (rank rs p) (rank rs i) (none_below r.inc p own) (one_below r.inc p i own up) (rank-le rs p i up)
 less_by false r q rs p i same up later e =
-    sum_less (one_if (nat_lt r.inc p)) (one_if (nat_lt r.inc i)) (rank rs p) (rank rs i) (ones (nat_lt r.inc p) (nat_lt r.inc i) r.inc p i refl refl up) (later e)
+    add-lt-add_of_le_of_lt (ones (nat_lt r.inc p) (nat_lt r.inc i) r.inc p i refl refl up) (later e)
 
 -- a row that lives below another incarnation has fewer rows below it
 pub rank-less : (rows : List Row) (p i : ℕ) (q : Row) → p < i → row_of rows p ≡ Some q → rank rows p < rank rows i
@@ -137,9 +131,6 @@ size_by (suc m) rows i r lives e = (m, e)
 before : (a b n m : ℕ) → a < b → b < n → n ≡ suc m → a < m
 before a b n m low high e = omega arith
 
-before_size : (a b n : ℕ) → a < b → b < n → a < n
-before_size a b n low high = omega arith
-
 -- what is made of a row is its step of what is made of its parent
 up_step : {A : Type 0} (z : A) (step : ℕ → Row → A → A) (rows : List Row) (next i : ℕ) (r : Row) → IsOrderly rows next → row_of rows i ≡ Some r → up_from z step (length rows) rows (Some i) ≡ step i r (up_from z step (length rows) rows r.parent)
 unfolding up_from
@@ -148,7 +139,7 @@ up_step {A} z step rows next i r orderly lives =
     let within : rank rows i < length rows = rank-within rows i r lives in
     let above : up_from z step size.0 rows r.parent ≡ up_from z step (length rows) rows r.parent = up_parent z step size.0 (length rows) rows r r.parent refl
     (λ p below. let less : rank rows p < rank rows i = parent_rank rows next i p r orderly lives below in
-    up_enough z step size.0 (length rows) rows next p orderly (before (rank rows p) (rank rows i) (length rows) size.0 less within size.1) (before_size (rank rows p) (rank rows i) (length rows) less within)) in
+    up_enough z step size.0 (length rows) rows next p orderly (before (rank rows p) (rank rows i) (length rows) size.0 less within size.1) (lt_trans less within)) in
     ap (λ n. up_from z step n rows (Some i)) size.1 ∙ ap (λ o. elim o as (λ _. A) [ None ↦ z | Some q ↦ step i q (up_from z step size.0 rows q.parent) ]) lives ∙ ap (step i r) above
 
 -- ---- tests, names and lines

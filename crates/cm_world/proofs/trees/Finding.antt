@@ -1,9 +1,8 @@
 -- What a row that is found in a list passes.
 use Rattle.std.proofs.Common.{◌≡◌, ℕ, List, [], ◌∷◌, Bool, true, false, cond, ◌&&◌, ◌==◌, Option, Some, find, refl, subst, IsTrue}
 use Rattle.std.specs.List.{list_all}
-use Rattle.std.specs.Cmp.{unsigned_Decides}
+use Rattle.std.specs.Cmp.{unsigned_Decides, first_so, second_so}
 pub use Rattle.std.proofs.lemmas.Option.{same_Some as some_same, none-some as none_some}
-use Rattle.cm_decl.proofs.Sameness.{and_first, and_second}
 use Rattle.cm_world.specs.declared.row.Row.{Row}
 use Rattle.cm_world.specs.Rows.{row_of}
 
@@ -22,8 +21,8 @@ row_of-inc rows i r e = (unsigned_Decides r.inc i).0 (find-passes (λ s. s.inc =
 
 found_of_all : {A : Type 0} (t : Bool) (q : A → Bool) (s r : A) (o : Option A) (rest : Bool) → IsTrue (q s && rest) → (IsTrue rest → o ≡ Some r → IsTrue (q r)) → cond t (Some s) o ≡ Some r → IsTrue (q r)
 found_of_all true q s r o rest all later e =
-    subst (λ z. IsTrue (q z)) (some_same s r e) (and_first (q s) rest all)
-found_of_all false q s r o rest all later e = later (and_second (q s) rest all) e
+    subst (λ z. IsTrue (q z)) (some_same s r e) (first_so (q s) rest all)
+found_of_all false q s r o rest all later e = later (second_so (q s) rest all) e
 
 -- what all items pass, an item that is found passes
 pub find-all : {A : Type 0} (p q : A → Bool) (xs : List A) (r : A) → IsTrue (list_all q xs) → find p xs ≡ Some r → IsTrue (q r)

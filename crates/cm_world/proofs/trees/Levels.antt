@@ -2,12 +2,12 @@
 use Rattle.std.proofs.Common.{◌≡◌, ◌≢◌, ℕ, List, [], ◌∷◌, Bool, true, false, cond, not, ◌&&◌, ◌||◌, ◌==◌, true≢false, Option, Some, None, is_some, refl, sym, ◌∙◌, ap, subst, IsTrue, inl, inr}
 use Rattle.std.specs.List.{list_any, list_all}
 use Rattle.std.specs.Option.{option_map_or}
-use Rattle.std.specs.Cmp.{unsigned_Decides}
+use Rattle.std.specs.Cmp.{unsigned_Decides, first_so, second_so}
 use Rattle.std.proofs.lemmas.Bool.{or_parts}
 use Rattle.cm_decl.specs.declared.decl.Decl.{Decl}
 use Rattle.cm_decl.specs.Graph.{own_sources}
 use Rattle.cm_decl.specs.Reach.{DependencyPath}
-use Rattle.cm_decl.proofs.Sameness.{and_first, and_second, or_split}
+use Rattle.cm_decl.proofs.Sameness.{or_split}
 use Rattle.cm_world.specs.declared.row.Row.{Row}
 use Rattle.cm_world.specs.Rows.{row_of, decl_of, has_parent, is_live}
 use Rattle.cm_world.specs.Level.{is_child_row, is_level_node, level_edge, level_sources, is_from_row, LevelStrong}
@@ -21,13 +21,13 @@ use Rattle.cm_world.proofs.trees.Finding.{row_of-inc, find-all}
 pub edge_source : (rows : List Row) (p x y : ℕ) → LevelStrong rows p x y → IsTrue (list_any (is_from_row rows p y) (level_sources rows p x))
 edge_source rows p x y strong =
     let by : Bool = list_any (is_from_row rows p y) (level_sources rows p x) in
-    and_first by (is_level_node rows p x) (and_first (by && is_level_node rows p x) (is_level_node rows p y) strong)
+    first_so by (is_level_node rows p x) (first_so (by && is_level_node rows p x) (is_level_node rows p y) strong)
 
 -- the first is a node
 pub edge_node : (rows : List Row) (p x y : ℕ) → LevelStrong rows p x y → IsTrue (is_level_node rows p x)
 edge_node rows p x y strong =
     let by : Bool = list_any (is_from_row rows p y) (level_sources rows p x) in
-    and_second by (is_level_node rows p x) (and_first (by && is_level_node rows p x) (is_level_node rows p y) strong)
+    second_so by (is_level_node rows p x) (first_so (by && is_level_node rows p x) (is_level_node rows p y) strong)
 
 -- ---- a level without children
 
@@ -87,8 +87,8 @@ pub node_row : (rows : List Row) (p z : ℕ) → IsTrue (is_level_node rows p z)
 node_row rows p z h =
     elim (or_split (z == p && is_live rows p) (is_child_row rows p z) h) as (λ _. (r : Row) × (row_of rows z ≡ Some r)) [
       | inl own ↦
-          let same : z ≡ p = (unsigned_Decides z p).0 (and_first (z == p) (is_live rows p) own) in
-          some_by (row_of rows z) (subst (λ i. IsTrue (is_some (row_of rows i))) (sym same) (and_second (z == p) (is_live rows p) own))
+          let same : z ≡ p = (unsigned_Decides z p).0 (first_so (z == p) (is_live rows p) own) in
+          some_by (row_of rows z) (subst (λ i. IsTrue (is_some (row_of rows i))) (sym same) (second_so (z == p) (is_live rows p) own))
       | inr child ↦ live_by p (row_of rows z) child
     ]
 

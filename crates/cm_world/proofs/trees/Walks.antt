@@ -2,7 +2,7 @@
 use Rattle.std.proofs.Common.{◌≡◌, ℕ, zero, suc, ◌+◌, ◌<◌, List, [], ◌∷◌, ◌++◌, Bool, true, false, cond, not, ◌&&◌, ◌==◌, nat_eq, true≢false, Option, Some, None, IsTrue, find, option_map, option_and_then, refl, sym, ◌∙◌, ap, subst, arith}
 use Rattle.std.specs.List.{list_all}
 use Rattle.std.specs.Option.{option_eq}
-use Rattle.std.specs.Cmp.{unsigned_Decides}
+use Rattle.std.specs.Cmp.{unsigned_Decides, first_so, second_so}
 use Rattle.std.proofs.Math.Bool.{and-false}
 use Rattle.cm_names.specs.declared.child.ChildName.{ChildName}
 use Rattle.cm_decl.specs.declared.kind.Kind.{Kind}
@@ -15,7 +15,6 @@ use Rattle.cm_decl.specs.declared.origin.Origin.{Origin}
 use Rattle.cm_decl.specs.declared.origin.Origin.TheVariants.{Parent, Own, Framework, Child, Void}
 use Rattle.cm_decl.specs.Clashes.{or_else}
 use Rattle.cm_decl.specs.Valid.{IsValid, is_parent, is_void, is_further_formed}
-use Rattle.cm_decl.proofs.Sameness.{and_first, and_second}
 use Rattle.cm_world.specs.declared.row.Row.{Row}
 use Rattle.cm_world.specs.declared.frame.Builtin.{Builtin}
 use Rattle.cm_world.specs.declared.route.Hop.{Hop}
@@ -81,7 +80,7 @@ child_lives rows next p j c increasing e =
     let lives : row_of rows found.0.inc ≡ Some found.0 = find-lives test rows next found.0 increasing found.1 in (
       found.0,
       subst (λ i. row_of rows i ≡ Some found.0) found.2 lives,
-      parent_is p found.0.parent (and_first (has_parent p found.0) (has_name c found.0) (and_first (has_parent p found.0 && has_name c found.0) (not found.0.doomed) passes)),
+      parent_is p found.0.parent (first_so (has_parent p found.0) (has_name c found.0) (first_so (has_parent p found.0 && has_name c found.0) (not found.0.doomed) passes)),
     )
 
 -- ---- exposes
@@ -105,7 +104,7 @@ decl_valid rows next j d orderly e = valid_by rows next j d (row_of rows j) orde
 -- an expose of a valid declaration leads down
 valid_down : (d : Decl) (q : Give → Bool) (g : Give) → IsValid d → find q d.exposes ≡ Some g → (is_from_parent (Some g.from) && true) ≡ false
 valid_down d q g valid e =
-    expose_down g.from (find-all q (λ x. not (is_parent x.from)) d.exposes g (and_first (list_all (λ x. not (is_parent x.from)) d.exposes) (is_further_formed d) (and_second (list_all (λ u. not (is_void u.from)) d.uses) (list_all (λ x. not (is_parent x.from)) d.exposes && is_further_formed d) valid.well_formed)) e)
+    expose_down g.from (find-all q (λ x. not (is_parent x.from)) d.exposes g (first_so (list_all (λ x. not (is_parent x.from)) d.exposes) (is_further_formed d) (second_so (list_all (λ u. not (is_void u.from)) d.uses) (list_all (λ x. not (is_parent x.from)) d.exposes && is_further_formed d) valid.well_formed)) e)
 
 -- ---- from station to station
 

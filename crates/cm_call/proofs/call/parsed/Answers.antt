@@ -1,14 +1,15 @@
-use Rattle.std.proofs.Common.{◌≡◌, true, map, ◌∙◌}
+use Rattle.std.proofs.Common.{◌≡◌, true, map, ◌∙◌, map-id}
 use Rattle.clap.specs.Words.{app_of, found_of}
 use Rattle.clap.specs.Walk.{rows_of}
 use Rattle.clap.specs.Simple.{is_simple}
-use Rattle.cm_call.proofs.texts.WordLemmas.{map-id, prefix_true, rows_ok, rows_err}
+use Rattle.std.specs.Cmp.{first_so}
+use Rattle.cm_call.proofs.texts.WordLemmas.{rows_ok, rows_err}
 use Rattle.cm_call.proofs.call.parsed.Goals as goal
 
 pub returns-in-Ok : goal.returns-in-Ok
 returns-in-Ok c =
     let same : map (λ t. t) c.args.words.now ≡ c.args.words.now = map-id c.args.words.now in
-    let simple : is_simple (app_of c.args.command) ≡ true = prefix_true _ _ c.requires in
+    let simple : is_simple (app_of c.args.command) ≡ true = first_so _ _ c.requires in
     rows_ok (app_of c.args.command) c.args.words.now (rows_of (found_of c.in-Ok.matches)) (rw same at (c.in-Ok.ensures.kinds c.requires)) (rw same at (c.in-Ok.ensures.matches simple).0)
 
 pub returns : goal.returns

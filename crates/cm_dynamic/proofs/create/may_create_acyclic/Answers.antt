@@ -1,4 +1,5 @@
 use Rattle.std.proofs.Common.{Option, None, refl, sym, subst}
+use Rattle.std.proofs.lemmas.Result.{IfOk-weaker}
 use Rattle.cm_world.specs.Create.{dynamic_name, dynamic_children, dynamic_with, refused_create}
 use Rattle.cm_dynamic.specs.Replies.{AnswersCreate, AnswersGraph, RefusesChange}
 use Rattle.cm_dynamic.specs.declared.create.MayCreate.{MayCreate}
@@ -7,7 +8,6 @@ use Rattle.cm_dynamic.proofs.graphs.Leading.{onward_acyclic}
 use Rattle.cm_dynamic.proofs.children.Taking.{unused_name}
 use Rattle.cm_dynamic.specs.Onward.{IsOnward}
 use Rattle.cm_names.specs.declared.child.ChildName.{ChildName}
-use Rattle.cm_walk.proofs.routes.StepsAlong.{if_ok}
 use Rattle.cm_dynamic.proofs.children.Refusing.{is_refused, is_resolved, is_by_graph}
 use Rattle.cm_dynamic.proofs.create.may_create_acyclic.Goals as goal
 
@@ -51,5 +51,5 @@ pub returns : goal.returns
 returns g c =
     let rows = g.V.View.rows c.args.view.now in
     let refuses : RefusesChange None (refused_create rows c.args.parent c.args.coll.now c.args.child.now c.args.gives.now) = subst (λ (o : Option MayCreate). RefusesChange o (refused_create rows c.args.parent c.args.coll.now c.args.child.now c.args.gives.now)) c.in_default.is c.in_ok-refusal.ensures in
-    if_ok (AnswersGraph c.in-Some-decl.decl.now c.as_slice.result.now c.args.free) (AnswersCreate rows c.args.free c.args.parent c.args.coll.now c.args.child.now c.args.gives.now) c.by_graph.result
+    IfOk-weaker c.by_graph.result (AnswersGraph c.in-Some-decl.decl.now c.as_slice.result.now c.args.free) (AnswersCreate rows c.args.free c.args.parent c.args.coll.now c.args.child.now c.args.gives.now)
     (λ answer by_graph. is_by_graph rows c.args.free c.args.parent c.args.coll.now c.args.child.now c.args.gives.now c.in-Some-decl.decl.now c.in_ok-name.name c.in_ok-children.children.items c.as_slice.result.now answer refuses (sym c.in-Some-decl.ensures.decl) c.in_ok-name.ensures c.in_ok-children.ensures c.as_slice.ensures.value by_graph) c.by_graph.ensures

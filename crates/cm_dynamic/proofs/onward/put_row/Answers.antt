@@ -1,6 +1,6 @@
 use Rattle.std.proofs.Common.{IsTrue, sym, ◌∙◌}
 use Rattle.std.specs.List.{list_all}
-use Rattle.cm_walk.proofs.routes.StepsAlong.{if_ok}
+use Rattle.std.proofs.lemmas.Result.{IfOk-weaker}
 use Rattle.cm_dynamic.specs.Onward.{leads_past, RowLeadsPast}
 use Rattle.cm_dynamic.proofs.graphs.Walking.{grows_none, row_none, row_some}
 use Rattle.cm_dynamic.proofs.onward.put_row.Goals as goal
@@ -14,8 +14,6 @@ returns-in-None-clause-grows g c = grows_none c.args.seen.now c.args.ahead.now
 
 pub returns-in-Some-clause-past : goal.returns-in-Some-clause-past
 returns-in-Some-clause-past g c =
-    if_ok (λ told. IsTrue told → IsTrue (list_all (leads_past (g.V.View.rows c.args.view.now) c.args.parent c.args.name.now c.put_gives.new.seen) c.as_slice.result.now))
-    (λ told. IsTrue told → RowLeadsPast (g.V.View.rows c.args.view.now) c.args.parent c.args.name.now c.put_gives.new.seen c.args.inc)
-    c.put_gives.result
+    IfOk-weaker c.put_gives.result (λ told. IsTrue told → IsTrue (list_all (leads_past (g.V.View.rows c.args.view.now) c.args.parent c.args.name.now c.put_gives.new.seen) c.as_slice.result.now)) (λ told. IsTrue told → RowLeadsPast (g.V.View.rows c.args.view.now) c.args.parent c.args.name.now c.put_gives.new.seen c.args.inc)
     (λ told past is. row_some (g.V.View.rows c.args.view.now) c.args.parent c.args.inc c.args.name.now c.put_gives.new.seen c.in-Some.gives.now c.as_slice.result.now c.in-Some.ensures c.as_slice.ensures (past is))
     c.put_gives.ensures.past

@@ -1,10 +1,11 @@
 use Rattle.std.proofs.Common.{true≢false, sym, ◌∙◌, IsTrue}
 use Rattle.std.specs.Prelude.{◌↔◌}
 use Rattle.std.proofs.lemmas.Bool.{and_parts, and_from}
+use Rattle.std.proofs.lemmas.Result.{IfOk-weaker}
 use Rattle.cm_world.specs.Rows.{is_below}
 use Rattle.cm_order.specs.Picking.{MayBePicked}
 use Rattle.cm_order.specs.Ways.{is_idle, IsFreeUpTo}
-use Rattle.cm_order.proofs.searches.Choosing.{never_so, none_picked, picked_is, chosen_if, if_ok}
+use Rattle.cm_order.proofs.searches.Choosing.{never_so, none_picked, picked_is, chosen_if}
 use Rattle.cm_order.proofs.choosing.may_pick_with.Goals as goal
 
 pub returns-in_default-clause-may : goal.returns-in_default-clause-may
@@ -33,7 +34,7 @@ is_free_up_to-requires-clause-levels g c = c.requires.plan.levels
 pub returns-clause-may : goal.returns-clause-may
 returns-clause-may g c =
     let both = and_parts (is_below (g.V.View.rows c.args.view.now) c.in-Some.top c.args.inc) (is_idle (g.V.View.rows c.args.view.now) c.args.inc) (sym c.is_idle_below.ensures ∙ c.if-not-is_idle_below.false) in
-    if_ok (λ free. IsTrue free ↔ IsFreeUpTo (g.V.View.rows c.args.view.now) c.in-Some.top c.args.inc) (λ may. IsTrue may ↔ MayBePicked (g.V.View.rows c.args.view.now) c.args.target c.args.inc) c.is_free_up_to.result
+    IfOk-weaker c.is_free_up_to.result (λ free. IsTrue free ↔ IsFreeUpTo (g.V.View.rows c.args.view.now) c.in-Some.top c.args.inc) (λ may. IsTrue may ↔ MayBePicked (g.V.View.rows c.args.view.now) c.args.target c.args.inc)
     (λ free it. chosen_if (g.V.View.rows c.args.view.now) (g.V.View.next_inc c.args.view.now) c.requires.sound.orderly c.args.target c.in-Some.top c.args.inc free (sym c.in-Some.ensures) (sym c.in_ok-all_shut.ensures ∙ c.if-branch.false) both.0 both.1 it)
     c.is_free_up_to.ensures.free
 

@@ -1,4 +1,4 @@
-use Rattle.std.proofs.Common.{rules, ◌≡◌, ◌⊎◌, ◌≤◌, ◌∙◌, ℕ, Ok, inl, inr, length, map, refl, sym, ap, subst}
+use Rattle.std.proofs.Common.{rules, ◌≡◌, ◌⊎◌, ◌≤◌, ◌∙◌, ℕ, Ok, inl, inr, length, map, refl, sym, ap, subst, add-zero}
 use Rattle.std.proofs.KnownBytes.{Keeps-refl}
 use Rattle.std.specs.Prelude.{None}
 use Rattle.std.specs.Io.KnownBytes.{Keeps}
@@ -21,7 +21,7 @@ use Rattle.cm_program.proofs.links.Attending.{runs_no_session}
 use Rattle.cm_program.proofs.whole.RunLemmas.{empty_history, known_nothing, of_faulty, own_nothing, some_unread}
 use Rattle.cm_program.proofs.whole.Handing.{handed_on}
 use Rattle.cm_program.proofs.whole.Saying.{says_usage, says_want}
-use Rattle.cm_program.proofs.Statuses.{at_six, at_told, but_told, check_idles, few_given, none_more, not_check, not_six, not_two, not_run, not_script, not_serve, run_isnt_idle, script_idles, serve_isnt_idle}
+use Rattle.cm_program.proofs.Statuses.{at_six, at_told, but_told, check_idles, few_given, not_check, not_six, not_two, not_run, not_script, not_serve, run_isnt_idle, script_idles, serve_isnt_idle}
 use Rattle.cm_program.proofs.Asking.{asked, is_audit, is_check, is_generate, is_run, is_serve, no_call, no_fault, no_other, same_options, same_serving, same_workload, unusable}
 use Rattle.cm_program.proofs.run.run.Goals as goal
 
@@ -49,7 +49,7 @@ returns-in-Ok-Run g c =
       empty = script_idles c.run_script-ran.result.status c.run_script-ran.ensures.others c.run_script-ran.ensures.empty;
       other = λ none. absurd (none (inl (inl (c.in-Ok-Run.options, asked c.in-Ok-Run.ensures.gives c.in-Ok-Run.field-0-is))));
       unserved = λ no_workload no_door. c.run_script-ran.ensures.unserved;
-      given = none_more (g.D.Door.counts c.args.door).links;
+      given = sym (add-zero (g.D.Door.counts c.args.door).links);
       unopened = λ none. (refl, refl);
       of_run = λ options asks. record {
         status = c.run_script-ran.ensures.others;
@@ -94,7 +94,7 @@ returns-in-Ok-Generate g c =
       empty = run_isnt_idle c.run_generated-ran.result.status c.run_generated-ran.ensures.others;
       other = λ none. absurd (none (inl (inr (c.in-Ok-Generate.workload, asked c.in-Ok-Generate.ensures.gives c.in-Ok-Generate.field-0-is))));
       unserved = λ no_workload. absurd (no_workload (c.in-Ok-Generate.workload, asked c.in-Ok-Generate.ensures.gives c.in-Ok-Generate.field-0-is));
-      given = none_more (g.D.Door.counts c.args.door).links;
+      given = sym (add-zero (g.D.Door.counts c.args.door).links);
       unopened = λ none. (refl, refl);
       of_run = λ options asks. no_other is_generate c.in-Ok-Generate.ensures.gives c.in-Ok-Generate.field-0-is asks refl refl;
       of_check = λ asks. no_other is_generate c.in-Ok-Generate.ensures.gives c.in-Ok-Generate.field-0-is asks refl refl;

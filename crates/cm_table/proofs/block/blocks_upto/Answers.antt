@@ -1,8 +1,8 @@
-use Rattle.std.proofs.Common.{leb, leb-true, arith, rules}
+use Rattle.std.proofs.Common.{leb, leb-true, arith, rules, leb-false}
 use Rattle.std.proofs.lemmas.List.Sorted.{IsPartitionPoint-from_clause, IsPartitionedBy-leb}
 use Rattle.cm_table.specs.Keys.{first_key}
 use Rattle.cm_table.specs.Slots.{inc_of, slots_in}
-use Rattle.cm_table.proofs.lists.BinarySearch.{begin_higher, not_le}
+use Rattle.cm_table.proofs.lists.BinarySearch.{begin_higher}
 use Rattle.cm_table.proofs.block.blocks_upto.Goals as goal
 
 pub returns : goal.returns
@@ -12,5 +12,5 @@ returns c =
     record {
       bound = c.partition_point.ensures.bound;
       low = λ j d lt. leb-true _ _ (point.0 j d (omega arith) lt);
-      high = λ j d le lt. not_le _ _ (point.1 j d le lt);
+      high = λ j d le lt. leb-false _ _ (point.1 j d le lt);
     }

@@ -1,7 +1,7 @@
-use Rattle.std.proofs.Common.{leb, leb-true, arith, rules}
+use Rattle.std.proofs.Common.{leb, leb-true, arith, rules, leb-false}
 use Rattle.std.proofs.lemmas.List.Sorted.{IsPartitionPoint-from_clause, IsPartitionedBy-leb}
 use Rattle.cm_table.specs.Slots.{inc_of}
-use Rattle.cm_table.proofs.lists.BinarySearch.{increasing_alone, not_le}
+use Rattle.cm_table.proofs.lists.BinarySearch.{increasing_alone}
 use Rattle.cm_table.proofs.block.slots_upto.Goals as goal
 
 pub returns : goal.returns
@@ -11,5 +11,5 @@ returns c =
     record {
       bound = c.partition_point.ensures.bound;
       low = λ j d lt. leb-true _ _ (point.0 j d (omega arith) lt);
-      high = λ j d le lt. not_le _ _ (point.1 j d le lt);
+      high = λ j d le lt. leb-false _ _ (point.1 j d le lt);
     }

@@ -1,7 +1,7 @@
-use Rattle.std.proofs.Common.{◌-◌, ◌≤◌, ◌==◌, ◌∙◌, ap, sym, arith}
+use Rattle.std.proofs.Common.{◌-◌, ◌≤◌, ◌==◌, ◌∙◌, ap, sym, arith, add-sub_of_le}
 use Rattle.cm_world.specs.Edits.{drop_first}
 use Rattle.cm_table.specs.Slots.{kids_of}
-use Rattle.cm_table.proofs.indexes.Naming.{sum_above, kept_low, remove_kids}
+use Rattle.cm_table.proofs.indexes.Naming.{kept_low, remove_kids}
 use Rattle.cm_table.proofs.links.remove_child.Goals as goal
 
 pub returns-then-inc-own-clause-kids : goal.returns-then-inc-own-clause-kids
@@ -12,5 +12,5 @@ returns-then-inc-own-clause-kids c =
 pub returns-clause-kids : goal.returns-clause-kids
 returns-clause-kids c =
     let le : c.in-Some.own.base ≤ c.args.inc = omega (arith, c.if-inc-own.false) in
-    remove_kids c.in-Some.own c.remove.new.self c.remove.ensures.base (c.args.inc - c.in-Some.own.base) c.args.inc (sum_above c.args.inc c.in-Some.own.base le) c.remove.ensures.kids
+    remove_kids c.in-Some.own c.remove.new.self c.remove.ensures.base (c.args.inc - c.in-Some.own.base) c.args.inc (add-sub_of_le le) c.remove.ensures.kids
     ∙ ap (λ x. drop_first (λ k. k == c.args.inc) (kids_of x)) (sym c.in-Some.is)

@@ -1,6 +1,6 @@
-use Rattle.std.proofs.Common.{ℕ, leb, leb-true, arith, rules}
+use Rattle.std.proofs.Common.{ℕ, leb, leb-true, arith, rules, leb-false}
 use Rattle.std.proofs.lemmas.List.Sorted.{IsPartitionPoint-from_clause, IsPartitionedBy-leb}
-use Rattle.cm_table.proofs.lists.BinarySearch.{increasing_alone, not_le}
+use Rattle.cm_table.proofs.lists.BinarySearch.{increasing_alone}
 use Rattle.cm_table.proofs.slot.kids_upto.Goals as goal
 
 pub returns : goal.returns
@@ -10,5 +10,5 @@ returns c =
     record {
       bound = omega (arith, c.partition_point.ensures.bound);
       low = λ j d lt. leb-true _ _ (point.0 j d (omega arith) lt);
-      high = λ j d le lt. not_le _ _ (point.1 j d le lt);
+      high = λ j d le lt. leb-false _ _ (point.1 j d le lt);
     }

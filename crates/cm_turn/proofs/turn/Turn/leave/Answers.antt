@@ -1,9 +1,10 @@
 use Rattle.std.proofs.Common.{rules, ◌≡◌, List, [], ◌∷◌, ◌++◌, Some, All, ap, ◌∙◌, sym, subst}
 use Rattle.atomic_table.specs.Table.{rest}
+use Rattle.std.proofs.lemmas.Option.{same_Some}
 use Rattle.cm_turn.specs.History.{entries_by}
 use Rattle.cm_turn.specs.Passes.{HeldView, view_in}
 use Rattle.cm_turn.proofs.Histories.{entries-left}
-use Rattle.cm_turn.proofs.ViewLists.{slot_same, some_same}
+use Rattle.cm_turn.proofs.ViewLists.{slot_same}
 use Rattle.cm_turn.proofs.turn.Turn.leave.Goals as goal
 
 pub record_entries-requires-clause-entries : goal.record_entries-requires-clause-entries
@@ -37,7 +38,7 @@ returns g c =
           let r = c.record_entries.ensures.view in
           let slot : (0, Some i.state) ∷ [] ≡ (0, Some r.0) ∷ [] = sym (ap (λ m. m.1) e) ∙ r.2 in
           let state : r.0 ≡ i.state = slot_same r.0 i.state (sym slot) in
-          let caller : r.1 ≡ i.number = some_same r.1 i.number (sym r.3 ∙ (ap (λ m. m.0.caller) e ∙ ap (λ v. v.caller) holding)) in
+          let caller : r.1 ≡ i.number = same_Some r.1 i.number (sym r.3 ∙ (ap (λ m. m.0.caller) e ∙ ap (λ v. v.caller) holding)) in
           let views = ap view_in (c.into_badge.ensures.2 ∙ ap (λ m. m.0 ∷ []) c.pass_turn_on.ensures.view) in
           let mine = ap (λ v. v.mine) views ∙ ap (λ m. m.0.mine) r.4 in
           let Q : HeldView g.row.S.Denot E g.row.S-Frame.Denot → Type 0 = λ h. (es : List E) → story h.state ≡ h.pass.seen ++ es → (view_in c.into_badge.result.views).mine ≡ h.pass.mine ++ es in
