@@ -1,6 +1,7 @@
 -- Places of a journal: from one line to the next, and the verdict that is found there.
 use Rattle.std.proofs.Common.{◌≡◌, ◌⊎◌, inl, inr, ℕ, suc, ◌+◌, ◌-◌, ◌<◌, ◌≤◌, min, Bool, true, false, cond, ◌==◌, List, [], ◌∷◌, ◌++◌, length, refl, sym, ap, subst, ◌∙◌, arith, rules, length-append}
 use Rattle.std.proofs.lemmas.List.{append_assoc, append-nil}
+use Rattle.cm_facts.proofs.Lists.{cons_first}
 use Rattle.cm_command.specs.Scripts.{lines_of, in_prefix}
 use Rattle.cm_reply.specs.Lists.{TextBytes}
 use Rattle.cm_world.specs.declared.event.Event.{Event}
@@ -21,9 +22,6 @@ use Rattle.cm_audit.specs.Verdict.{size_of, bytes_of, journal_limit, IsLegalJour
 use Rattle.cm_audit.specs.Reading.{IsAt, IsCut, PassesLimit, IsStop, IsIllegal, IsJournalLineFault, IsHeadLine, StepTaken, stage_of, stop_at}
 
 -- ---- lines, one more
-
-first_is : (t : TextBytes) (ts : List TextBytes) (u : TextBytes) (us : List TextBytes) → t ∷ ts ≡ u ∷ us → t ≡ u
-first_is t ts u us e = cc e
 
 pub size_more : (prefix : List TextBytes) (t : TextBytes) → size_of (prefix ++ t ∷ []) ≡ size_of prefix + (length t + 1)
 size_more [] t = omega arith
@@ -109,10 +107,10 @@ first_short [] t ts e = absurd (cc e)
 first_short (b ∷ bs) t ts e = by (b == 10) (lines_of bs) (first_short bs) e
   where
     by : (v : Bool) (ls : List TextBytes) → ((u : TextBytes) (us : List TextBytes) → ls ≡ u ∷ us → length u ≤ length bs) → cond v ([] ∷ ls) (in_prefix b ls) ≡ t ∷ ts → length t ≤ length (b ∷ bs)
-    by true ls ih is = let none : length t ≡ 0 = ap length (sym (first_is [] ls t ts is)) in omega (arith, none)
-    by false [] ih is = let one : length t ≡ 1 = ap length (sym (first_is (b ∷ []) [] t ts is)) in omega (arith, one)
+    by true ls ih is = let none : length t ≡ 0 = ap length (sym (cons_first [] t ls ts is)) in omega (arith, none)
+    by false [] ih is = let one : length t ≡ 1 = ap length (sym (cons_first (b ∷ []) t [] ts is)) in omega (arith, one)
     by false (u ∷ us) ih is =
-        let more : length t ≡ suc (length u) = ap length (sym (first_is (b ∷ u) us t ts is)) in
+        let more : length t ≡ suc (length u) = ap length (sym (cons_first (b ∷ u) t us ts is)) in
         let short : length u ≤ length bs = ih u us refl in
         omega (arith, more, short)
 

@@ -1,4 +1,4 @@
-use Rattle.std.proofs.Common.{◌≡◌, ℕ, List, Bool, true, false, ◌&&◌, ◌||◌, true≢false, Option, Some, None, refl, sym, ◌∙◌, ap, IsTrue, inl, inr, ◌⊎◌, bytes_eq}
+use Rattle.std.proofs.Common.{◌≡◌, ℕ, List, true, false, ◌&&◌, true≢false, Option, Some, None, refl, sym, ◌∙◌, ap, IsTrue, bytes_eq}
 use Rattle.std.specs.Option.{option_eq}
 use Rattle.std.specs.Cmp.Lexicographic.{bytes_decides}
 use Rattle.std.specs.Cmp.{first_so, second_so}
@@ -6,10 +6,6 @@ use Rattle.cm_names.specs.declared.child.ChildName.{ChildName}
 use Rattle.cm_decl.specs.declared.node.Node.{Node}
 use Rattle.cm_decl.specs.declared.node.Node.TheVariants.{Own, Child}
 use Rattle.cm_decl.specs.Same.{same_child, same_node}
-
-pub or_split : (p q : Bool) → IsTrue (p || q) → IsTrue p ⊎ IsTrue q
-or_split true q h = inl refl
-or_split false q h = inr h
 
 pub never : {A : Type 0} → IsTrue false → A
 never h = absurd (true≢false (sym h))

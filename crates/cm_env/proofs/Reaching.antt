@@ -2,6 +2,7 @@
 use Rattle.std.proofs.Common.{◌≡◌, ℕ, ◌<◌, List, [], Bool, true, false, cond, Option, Some, None, find, option_map, refl, sym, ◌∙◌, ap, arith}
 use Rattle.std.specs.Option.{option_or}
 use Rattle.cm_names.specs.declared.child.ChildName.{ChildName}
+use Rattle.cm_facts.proofs.Options.{option_map_none}
 use Rattle.cm_decl.specs.declared.decl.Decl.{Decl}
 use Rattle.cm_decl.specs.declared.environment.Registration.{Registration}
 use Rattle.cm_decl.specs.declared.environment.Environment.{Environment}
@@ -21,10 +22,6 @@ use Rattle.cm_env.specs.Reach.{found_by, IsReachOf}
 use Rattle.cm_env.proofs.Steps.{Stands, is_known, found_above, found_undeclared, found_declared}
 
 -- ---- what is given
-
-none_given : {A B : Type 0} (f : A → B) (o : Option A) → None ≡ option_map f o → None ≡ o
-none_given f None e = refl
-none_given f (Some x) e = absurd (none_some (f x) e)
 
 some_given : {A B : Type 0} (f : A → B) (y : B) (o : Option A) → Some y ≡ option_map f o → (x : A) × (Some x ≡ o) × (y ≡ f x)
 some_given f y None e = absurd (none_some y (sym e))
@@ -58,7 +55,7 @@ IsGiven rows i p above (In e) = (place : ℕ) → IsReachOf rows i (From p e pla
 
 pub given : (rows : List Row) (next i p : ℕ) (c : ChildName) (d : Decl) (above : Reach) (g : GivenEnvironment) → IsOrderly rows next → Stands rows i p c → Some d ≡ decl_of rows p → p < i → IsReachOf rows p above → told_given g ≡ option_map (environment_of d) (environment_given d c) → IsGiven rows i p above g
 given rows next i p c d above Realm orderly at resolved low reach told =
-    passed rows next i p c d above orderly at resolved (none_given (environment_of d) (environment_given d c) told) low reach
+    passed rows next i p c d above orderly at resolved (sym (option_map_none (environment_of d) (environment_given d c) (sym told))) low reach
 given rows next i p c d above Undeclared orderly at resolved low reach told =
     let one : (x : List ℕ) × (Some x ≡ environment_given d c) × (None ≡ environment_of d x) = some_given (environment_of d) None (environment_given d c) told in
     λ which name. found_undeclared which rows next i p c d one.0 name orderly at resolved one.1 one.2

@@ -1,10 +1,9 @@
 -- What is told where only the works are known that are wanted.
-use Rattle.std.proofs.Common.{◌≡◌, inl, inr, ℕ, ◌+◌, ◌<◌, ◌≤◌, ◌==◌, List, ◌∷◌, ◌++◌, Bool, true, false, cond, not, ◌&&◌, ◌||◌, Option, Some, None, take, drop, length, get_or, refl, sym, ◌∙◌, ap, subst}
+use Rattle.std.proofs.Common.{◌≡◌, inl, inr, ℕ, ◌+◌, ◌<◌, ◌≤◌, ◌==◌, List, ◌∷◌, ◌++◌, Bool, true, false, not, ◌&&◌, ◌||◌, Option, Some, None, take, drop, length, get_or, refl, sym, ◌∙◌, ap, subst}
 use Rattle.std.specs.Prelude.{filter}
 use Rattle.std.specs.Option.{option_or, is_some}
 use Rattle.std.specs.HashMap.{HashMap}
 use Rattle.std.proofs.lemmas.Bool.{eq-eqb, true≢false, or_parts}
-use Rattle.std.proofs.lemmas.Option.{none-some}
 use Rattle.std.proofs.lemmas.List.{at_drop_more}
 use Rattle.cm_names.specs.declared.moniker.Moniker.{Moniker}
 use Rattle.cm_world.specs.declared.action.Work.{Work}
@@ -21,6 +20,8 @@ use Rattle.cm_events.specs.Wanted.{BeginsOnce, HasFound, is_wanted, wants}
 use Rattle.cm_events.proofs.Keeping.{work_of_more, stream_on}
 use Rattle.cm_events.proofs.Seeking.{once_at}
 use denote.Ref.{Bor}
+use Rattle.cm_facts.proofs.Booleans.{or_false_first}
+use Rattle.cm_facts.proofs.Options.{cond_none}
 
 -- ---- what an entry tells
 
@@ -37,23 +38,16 @@ told_same found whole n e r later has = refl
 
 -- ---- what is known behind an entry
 
-not_begun : (w : Work) (t : Bool) → cond t (Some w) None ≡ None → t ≡ false
-not_begun w true none = absurd (none-some w (sym none))
-not_begun w false none = refl
-
 kept_wanted : (later t : Bool) → t ≡ false → (later && not t) ≡ false → later ≡ false
 kept_wanted true true h un = h
 kept_wanted true false h un = un
 kept_wanted false t h un = refl
 
-or_unwanted : (later t : Bool) → (later || t) ≡ false → later ≡ false
-or_unwanted later t un = (or_parts later t un).0
-
 -- what no entry before wants, none behind wants but for what this one begins
 later_unwanted : (r : Reply) (e : Event) (a : ℕ) (later : Bool) → begun_as r a ≡ None → wants r e a later ≡ false → later ≡ false
-later_unwanted (reply.Begun work) e a later none un = kept_wanted later (work.action == a) (not_begun work (work.action == a) none) un
-later_unwanted (reply.Stopping work) e a later none un = kept_wanted later (work.action == a) (not_begun work (work.action == a) none) un
-later_unwanted (reply.Ended o) (event.End b finish) a later none un = or_unwanted later (is_some (kind_of o) && b == a) un
+later_unwanted (reply.Begun work) e a later none un = kept_wanted later (work.action == a) (cond_none (work.action == a) work none) un
+later_unwanted (reply.Stopping work) e a later none un = kept_wanted later (work.action == a) (cond_none (work.action == a) work none) un
+later_unwanted (reply.Ended o) (event.End b finish) a later none un = or_false_first later (is_some (kind_of o) && b == a) un
 later_unwanted r e a later none un = un
 
 has_on : (begun found whole : Option Work) (wanted later : Bool) → ((w : Work) → begun ≡ Some w → whole ≡ None) → (begun ≡ None → wanted ≡ false → later ≡ false) → HasFound found whole wanted → HasFound (option_or found begun) (option_or whole begun) later

@@ -14,6 +14,7 @@ use Rattle.cm_events.specs.Works.{work_at, begun_as}
 use Rattle.cm_events.specs.Wanted.{BeginsOnce, HasFound, TakesWork}
 use Rattle.cm_events.proofs.Keeping.{work_of_more}
 use denote.Ref.{Bor}
+use Rattle.cm_facts.proofs.Options.{option_or_none}
 
 -- ---- what an entry begins
 
@@ -48,14 +49,10 @@ stands_first : (wanted : Bool) (found whole : Option Work) → found ≡ None �
 stands_first true found whole none = (none, refl)
 stands_first false found whole none = inr (none, refl)
 
-or_nothing : (o : Option Work) → option_or o None ≡ o
-or_nothing None = refl
-or_nothing (Some w) = refl
-
 -- one entry further to the prefix
 stands_on : (begun : Option Work) (sought : Bool) (found whole here : Option Work) (wanted still : Bool) (now : Option Work) → ((w : Work) → begun ≡ Some w → here ≡ None) → Stands sought found (option_or here begun) whole wanted → TakesWork begun sought found still now → Stands still now here whole wanted
 stands_on None sought found whole here wanted still now once stands takes =
-    subst (λ s. Stands s now here whole wanted) (sym takes.0) (subst (λ f. Stands sought f here whole wanted) (sym takes.1) (subst (λ h. Stands sought found h whole wanted) (or_nothing here) stands))
+    subst (λ s. Stands s now here whole wanted) (sym takes.0) (subst (λ f. Stands sought f here whole wanted) (sym takes.1) (subst (λ h. Stands sought found h whole wanted) (option_or_none here) stands))
 stands_on (Some w) true found whole here wanted still now once stands takes =
     let first : option_or here (Some w) ≡ Some w = ap (λ h. option_or h (Some w)) (once w refl) in
     subst (λ s. Stands s now here whole wanted) (sym takes.0) (inl (takes.1 ∙ sym first ∙ stands.1))

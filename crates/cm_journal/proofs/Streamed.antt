@@ -5,6 +5,7 @@ use Rattle.std.specs.List.{flat_map, range_with_len}
 use Rattle.std.proofs.lemmas.Option.{slice_get_cases}
 use Rattle.std.proofs.lemmas.List.Elements.{All-cons, All-append, All-nil, All-filter, All-take}
 use Rattle.cm_names.specs.declared.moniker.Moniker.{Moniker}
+use Rattle.cm_facts.proofs.Lists.{All_map, All_filter_map}
 use Rattle.cm_world.specs.declared.action.Work.{Work}
 use Rattle.cm_world.specs.declared.event.Event.{Event}
 use Rattle.cm_world.specs.declared.event.Event.TheVariants as event
@@ -18,7 +19,7 @@ use Rattle.cm_world.specs.declared.report.Lost.{Lost}
 use Rattle.cm_events.specs.Stream.{begun_by, work_of, kind_of, happening, destroyed, told_of, told_by, told_behind, is_within, stream}
 use Rattle.cm_reply.specs.LegibleInside.{IsOfNames}
 use Rattle.cm_legible.specs.Tellable.{IsNamedReply}
-use Rattle.cm_legible.proofs.Lists.{find-All, map-All, made-All}
+use Rattle.cm_legible.proofs.Lists.{find-All}
 use Rattle.cm_journal.specs.Said.{OfReplies}
 
 abbrev OfReply : Entry → Type 0
@@ -51,7 +52,7 @@ begun_is r h = tt
 
 work_is : (es : List Entry) (a : ℕ) → OfReplies es → IfSome (work_of es a) OfWork
 work_is es a h =
-    find-All OfWork (λ w. w.action == a) (filter_map (λ e. begun_by e.reply) es) (made-All OfReply OfWork (λ e. begun_by e.reply) es (λ e k. begun_is e.reply k) h)
+    find-All OfWork (λ w. w.action == a) (filter_map (λ e. begun_by e.reply) es) (All_filter_map OfReply OfWork (λ e. begun_by e.reply) es (λ e k. begun_is e.reply k) h)
 
 -- ---- what an entry tells
 
@@ -66,7 +67,7 @@ ended_is n None w h = All-nil OfHappening
 told_is : (works : ℕ → Option Work) (n : ℕ) (e : Event) (r : Reply) → ((a : ℕ) → IfSome (works a) OfWork) → IsNamedReply r → All OfHappening (told_by works n e r)
 told_is works n (event.End a finish) (reply.Ended o) are h = ended_is n (kind_of o) (works a) (are a)
 told_is works n (event.Exited i) (reply.Left m) are h = one_is n happen.Stopped m i h
-told_is works n e (reply.Purged lost) are h = map-All (λ (l : Lost). IsOfNames l.moniker) OfHappening (destroyed n) lost (λ l k. k) h
+told_is works n e (reply.Purged lost) are h = All_map (λ (l : Lost). IsOfNames l.moniker) OfHappening (destroyed n) lost (λ l k. k) h
 told_is works n e r are h = All-nil OfHappening
 
 behind_is : (h : List Entry) (k : ℕ) → OfReplies h → All OfHappening (told_behind h k)

@@ -7,6 +7,7 @@ use Rattle.std.proofs.lemmas.List.Elements.{All-cons, All-append, All-tail, All-
 use Rattle.cm_names.specs.Name.{IsName}
 use Rattle.cm_names.specs.Path.{is_path, service_path}
 use Rattle.cm_names.specs.Urls.{is_url_byte, is_url_text}
+use Rattle.cm_facts.proofs.Lists.{All_map}
 use Rattle.cm_decl.specs.declared.decl.Decl.{Decl}
 use Rattle.cm_decl.specs.declared.kind.Kind.{Kind}
 use Rattle.cm_decl.specs.declared.kind.Kind.TheVariants as kind
@@ -37,7 +38,7 @@ use Rattle.cm_audit.specs.Journal.{frame_of, Stage, before, head as heads, told,
 use Rattle.cm_audit.specs.Laws.{IsLegibleHistory, JournalsAreLegal}
 use Rattle.cm_legible.specs.Frames.{with_room}
 use Rattle.cm_legible.specs.Tellable.{IsTellable, IsTellableDecl, IsTellableGive, IsTellableFinish, IsTellableFrame, IsNamedReply}
-use Rattle.cm_legible.proofs.Lists.{head, map-All}
+use Rattle.cm_legible.proofs.Lists.{head}
 use Rattle.cm_legible.proofs.Paths.{path_is_long, service_is_long}
 use Rattle.cm_legible.proofs.Json.{OneLine, is_inner, one_line-append, decimal_line}
 use Rattle.cm_legible.proofs.Texts.{IsTold, reply_told}
@@ -194,7 +195,7 @@ unfolding journal_lines
 journal_lacks f es h k =
     All-cons (Lacks 10) (codes "journal") _ (lacks (codes "journal") refl)
     (All-append (Lacks 10) (map builtin_text f.builtins) _
-    (map-All IsLegibleBuiltin (Lacks 10) builtin_text f.builtins (λ b j. lacks (builtin_text b) (builtin_one_line b j).bytes) h.builtins)
+    (All_map IsLegibleBuiltin (Lacks 10) builtin_text f.builtins (λ b j. lacks (builtin_text b) (builtin_one_line b j).bytes) h.builtins)
     (All-cons (Lacks 10) (codes "root " ++ f.root) (entry_lines 1 es) (lacks (codes "root " ++ f.root) (one_line-append (codes "root ") f.root refl (url f.root h.root).bytes)) (entries_lack 1 es k)))
 
 pub all_legible : (f : Frame) (es : List Entry) → IsLegibleFrame f → Legal (start f) es → IsLegibleHistory es → All IsLegibleEntry es

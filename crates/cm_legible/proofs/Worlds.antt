@@ -4,6 +4,7 @@ use Rattle.std.specs.Prelude.{IfSome}
 use Rattle.std.proofs.lemmas.List.Elements.{All-cons, All-append, All-filter, All-tail, All-nil}
 use Rattle.cm_names.specs.Moniker.{IsChildName}
 use Rattle.cm_names.specs.Urls.{is_url_text}
+use Rattle.cm_facts.proofs.Lists.{All_map}
 use Rattle.cm_decl.specs.declared.decl.Decl.{Decl}
 use Rattle.cm_decl.specs.declared.rows.Child.{Child}
 use Rattle.cm_world.specs.declared.row.Row.{Row}
@@ -27,7 +28,7 @@ use Rattle.cm_world.specs.Create.{created_row}
 use Rattle.cm_world.specs.Expiring.{expired, goes_with, is_stopped}
 use Rattle.cm_world.specs.After.{moved, after, with_end_of}
 use Rattle.cm_legible.specs.Tellable.{IsTellable, IsTellableFinish, IsTellableDecl, IsTellableKid, IsTellableGive, IsTellableRow, IsTellableWorld, IsTellableFrame}
-use Rattle.cm_legible.proofs.Lists.{head, edit-All, map-All}
+use Rattle.cm_legible.proofs.Lists.{head, edit-All}
 
 abbrev Rows : List Row → Type 0
 Rows rows = All IsTellableRow rows
@@ -101,7 +102,7 @@ doomed_if true r h = leaves_doomed r h
 doomed_if false r h = h
 
 expire_rows : (i : ℕ) (rows : List Row) → Rows rows → Rows (expired i rows)
-expire_rows i rows h = map-All IsTellableRow IsTellableRow (λ r. cond (goes_with rows i r && not r.doomed) (set_doomed r) r) rows (λ r. doomed_if (goes_with rows i r && not r.doomed) r) h
+expire_rows i rows h = All_map IsTellableRow IsTellableRow (λ r. cond (goes_with rows i r && not r.doomed) (set_doomed r) r) rows (λ r. doomed_if (goes_with rows i r && not r.doomed) r) h
 
 expire_if : (b : Bool) (i : ℕ) (rows : List Row) → Rows rows → Rows (cond b (expired i rows) rows)
 expire_if true i rows h = expire_rows i rows h

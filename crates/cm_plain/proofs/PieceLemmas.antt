@@ -217,10 +217,6 @@ passes_then c d e text mid rest first next = record {
   comma = then_comma first.passed next.passed c d e first.comma next.comma;
 }
 
-pub not_both : (c : Bool) → (c && false) ≡ false
-not_both true = refl
-not_both false = refl
-
 passes_one : (c d : Bool) (p : Piece) (text rest : List ℕ) → piece_bytes p ++ rest ≡ text
     → comma_behind c p ≡ Some d → PassesPieces c text d rest
 passes_one c d p text rest bytes comma = record {

@@ -1,5 +1,5 @@
 -- The blocks that a map's entries stand for, and what is found among them.
-use Rattle.std.proofs.Common.{◌≡◌, ◌≢◌, ℕ, Bool, true, false, cond, List, [], ◌∷◌, ◌++◌, Option, Some, None, Ok, Err, is_some, string_bytes, String, refl, sym, ap, subst, ◌∙◌, true≢false, if◌then◌else◌}
+use Rattle.std.proofs.Common.{◌≡◌, ◌≢◌, ℕ, Bool, true, false, cond, List, [], ◌∷◌, ◌++◌, Some, None, Ok, Err, is_some, string_bytes, String, refl, sym, ap, subst, ◌∙◌, true≢false, if◌then◌else◌}
 use Rattle.std.specs.Map.{lookup}
 use Rattle.std.specs.Result.{result_map_both, result_unwrap_or}
 use Rattle.std.specs.Str.{bytes_eq}
@@ -31,10 +31,6 @@ is_some-block_at entries text key answer seen same found =
 -- one URL has one key
 key_of-one : (url key other : List ℕ) → key_of url ≡ Ok key → key_of url ≡ Ok other → key ≡ other
 key_of-one url key other first second = ap (λ given. result_unwrap_or given []) (sym first ∙ second)
-
-pub none_from : {X : Type 0} (o : Option X) → is_some o ≡ false → o ≡ None
-none_from None h = refl
-none_from (Some x) h = absurd (true≢false h)
 
 -- an entry that goes into a map under a new key is the last block
 pub blocks_of-insert : {S : Type 0} (m n : IndexMap (String Global) (List ℕ) S) (k : String Global) (bytes key : List ℕ) (blocks : Blocks) → blocks_of m.entries ≡ blocks → string_bytes k ≡ key

@@ -18,6 +18,7 @@ use Rattle.url.specs.Parser.{Parsed, and_then, parse_body, with_tail, before_tai
 use Rattle.url.specs.Parser.{parse_by_scheme, parse_without_scheme, parse_url}
 use Rattle.cm_names.specs.Urls.{is_url_byte, is_url_text}
 use Rattle.cm_names.specs.Steps.{◌>>=◌}
+use Rattle.cm_facts.proofs.Booleans.{and_false}
 use Rattle.cm_repo.specs.Urls.{accepted, url_on, text_of, key_of, begins_with_hash, joined_to}
 use Rattle.cm_repo.specs.Answers.{GivesUnless}
 use Rattle.cm_repo.specs.declared.fault.UrlFault.{UrlFault}
@@ -137,15 +138,11 @@ no_scheme : split_scheme [] ≡ None
 unfolding split_scheme scheme_len
 no_scheme = refl
 
-never : (b : Bool) → (b && false) ≡ false
-never true = refl
-never false = refl
-
 -- a fragment alone changes the fragment alone
 fragment_joined : (whole : Parts) (ys : List ℕ)
     → parse_without_scheme (Some whole) [] None (Some ys) ≡ Ok (with_tail whole whole.query (Some ys))
 unfolding parse_parts
-fragment_joined whole ys = rw (never (cannot_be_a_base whole))
+fragment_joined whole ys = rw (and_false (cannot_be_a_base whole))
 
 joined_fragment : (whole : Parts) (ys : List ℕ) → list_all is_url_byte (35 ∷ ys) ≡ true
     → parse_url (Some whole) (35 ∷ ys) ≡ Ok (with_tail whole whole.query (Some ys))

@@ -7,6 +7,7 @@ use Rattle.std.specs.Ordering.{nat_cmp}
 use Rattle.std.specs.BTreeMap.{get}
 use Rattle.std.proofs.lemmas.List.{length-map}
 use Rattle.std.proofs.lemmas.Option.{IfSome_then}
+use Rattle.cm_facts.proofs.Lists.{list_any_agree}
 use Rattle.cm_decl.specs.declared.decl.Decl.{Decl}
 use Rattle.cm_decl.specs.declared.origin.Origin.{Origin}
 use Rattle.cm_decl.specs.declared.origin.Origin.TheVariants as origin
@@ -32,7 +33,6 @@ use Rattle.cm_order.specs.Glances.{IsCleared, KnowsDependents}
 use Rattle.cm_order.specs.Plans.{IsFreeOnTheWay, IsKnownLevel, AreShutSoFar, IsDescent, IsPlan, KnowsNone}
 use Rattle.cm_order.proofs.searches.Reaching.{plan_none}
 use Rattle.cm_order.proofs.trees.Trees.{below_lives, shut_each, shut_all}
-use Rattle.cm_order.proofs.names.Listing.{any_same}
 use Rattle.cm_cache.specs.Right.{bare}
 use Rattle.cm_cache.specs.Keeping.{forgets}
 use Rattle.cm_cache.specs.Beside.{is_emptied, IsReported}
@@ -107,7 +107,7 @@ module _ (a b : List Row) (reads : ReadsSame a b) (p : ℕ) where
 
   edge_same : (x y : ℕ) → level_edge a p x y ≡ level_edge b p x y
   edge_same x y =
-      ap (λ t. t && is_level_node a p x && is_level_node a p y) (any_same (is_from_row a p y) (is_from_row b p y) (level_sources a p x) (from_same y))
+      ap (λ t. t && is_level_node a p x && is_level_node a p y) (list_any_agree (is_from_row a p y) (is_from_row b p y) (from_same y) (level_sources a p x))
       ∙ ap (λ ss. list_any (is_from_row b p y) ss && is_level_node a p x && is_level_node a p y) (sources_same x)
       ∙ ap (λ t. list_any (is_from_row b p y) (level_sources b p x) && t && is_level_node a p y) (node_same x)
       ∙ ap (λ t. list_any (is_from_row b p y) (level_sources b p x) && is_level_node b p x && t) (node_same y)

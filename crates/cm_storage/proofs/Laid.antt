@@ -11,6 +11,7 @@ use Rattle.std.proofs.lemmas.List.{take_more, take_all}
 use Rattle.cm_decl.specs.declared.storage.StorageOffer.{StorageOffer}
 use Rattle.cm_storage.specs.OfferIndex.{Key, same, is_by, offer_in, IsIndexOf, IsPutInIndex}
 use denote.Ref.{Bor}
+use Rattle.cm_facts.proofs.Options.{is_some_false, option_or_none}
 
 -- what stands at a key stands at each of the same bytes
 same_key : {S : Type 0} (index : HashMap Key (Bor StorageOffer) S) (k q : Key) → same k q ≡ true → get same index q ≡ get same index k
@@ -20,24 +21,16 @@ same_key index k q e =
     let to : k.1.now ≡ q.1.now = (bytes_decides k.1.now q.1.now).0 both.1 in
     ap₂ (λ a b. get_by (λ (x : Key). bytes_eq a x.0.now && bytes_eq b x.1.now) index) (sym name) (sym to)
 
-none_more : {A : Type 0} (x : Option A) → option_or x None ≡ x
-none_more None = refl
-none_more (Some a) = refl
-
 some_stays : (x : Option (Bor StorageOffer)) (y : Option StorageOffer) → is_some x ≡ true → option_or (option_copied x) y ≡ option_copied x
 some_stays None y there = absurd (true≢false (sym there))
 some_stays (Some a) y there = refl
-
-none_of : {A : Type 0} (x : Option A) → is_some x ≡ false → x ≡ None
-none_of None e = refl
-none_of (Some a) e = absurd (true≢false e)
 
 -- an offer is by the name and to the target of its own key
 at_key : (o : StorageOffer) (k q : Key) → k.0.now ≡ o.target_name → k.1.now ≡ o.to → is_by q.0.now q.1.now o ≡ same k q
 at_key o k q name to = ap₂ (λ a b. bytes_eq a q.0.now && bytes_eq b q.1.now) (sym name) (sym to)
 
 stays_by : {S : Type 0} (o : StorageOffer) (index : HashMap Key (Bor StorageOffer) S) (k q : Key) (t : Bool) → same k q ≡ t → is_some (get same index k) ≡ true → offer_in index q ≡ option_or (offer_in index q) (cond t (Some o) None)
-stays_by o index k q false e there = sym (none_more (offer_in index q))
+stays_by o index k q false e there = sym (option_or_none (offer_in index q))
 stays_by o index k q true e there = sym (some_stays (get same index q) (Some o) (ap is_some (same_key index k q e) ∙ there))
 
 -- nothing more is put where something stands
@@ -50,12 +43,12 @@ adds_by : {S : Type 0} (o : StorageOffer) (v : Bor StorageOffer) (old new : Hash
 adds_by o v old new k q true e is free at =
     ap option_copied at ∙ ap Some is
     ∙ sym (ap (λ x. option_or (option_copied x) (Some o)) (same_key old k q e ∙ free))
-adds_by o v old new k q false e is free at = ap option_copied at ∙ sym (none_more (offer_in old q))
+adds_by o v old new k q false e is free at = ap option_copied at ∙ sym (option_or_none (offer_in old q))
 
 -- what is put where nothing stands stands there
 pub put_adds : {S : Type 0} (o : StorageOffer) (v : Bor StorageOffer) (old new : HashMap Key (Bor StorageOffer) S) (k : Key) → k.0.now ≡ o.target_name → k.1.now ≡ o.to → v.now ≡ o → is_some (get same old k) ≡ false → ((q : Key) → get same new q ≡ cond (same k q) (Some v) (get same old q)) → IsPutInIndex o old new
 put_adds o v old new k name to is free at q =
-    adds_by o v old new k q (same k q) refl is (none_of (get same old k) free) (at q)
+    adds_by o v old new k q (same k q) refl is (is_some_false (get same old k) free) (at q)
     ∙ ap (λ t. option_or (offer_in old q) (cond t (Some o) None)) (sym (at_key o k q name to))
 
 -- an index of no offer

@@ -1,5 +1,5 @@
 -- Lines of a report, by what a parent hands on.
-use Rattle.std.proofs.Common.{◌≡◌, ℕ, List, [], ◌∷◌, ◌++◌, Bool, true, false, cond, ◌&&◌, true≢false, Option, Some, None, Result, Ok, Err, find, option_and_then, refl, sym, ◌∙◌, ap, subst, bytes_eq, append_assoc}
+use Rattle.std.proofs.Common.{◌≡◌, ℕ, List, [], ◌∷◌, ◌++◌, Bool, true, false, ◌&&◌, true≢false, Option, Some, None, Result, Ok, Err, find, option_and_then, refl, sym, ◌∙◌, ap, subst, bytes_eq, append_assoc}
 use Rattle.std.specs.Prelude.{String, string_bytes, OnOk, IfOk, IfSome, All, codes, option_map}
 use Rattle.std.specs.Bool.{beq}
 use Rattle.std.specs.Cmp.{booleans_Decides}
@@ -10,6 +10,7 @@ use Rattle.cm_world.proofs.trees.Finding.{some_same, none_some, find-passes}
 use Rattle.cm_names.specs.declared.child.ChildName.{ChildName}
 use Rattle.cm_names.specs.Child.{child_text}
 use Rattle.cm_names.specs.Moniker.{moniker_text, text_of_parts}
+use Rattle.cm_facts.proofs.Options.{cond_some_holds}
 use Rattle.cm_decl.specs.declared.decl.Decl.{Decl}
 use Rattle.cm_decl.specs.declared.origin.Origin.{Origin}
 use Rattle.cm_decl.specs.declared.origin.Origin.TheVariants as origin
@@ -76,15 +77,11 @@ fault_told rows builtins p e step c old new is gains =
 
 -- ---- what is kept
 
-found_of : {A : Type 0} (P : A → Type 0) (t : Bool) (y x : A) (o : Option A) → P y → (o ≡ Some x → P x) → cond t (Some y) o ≡ Some x → P x
-found_of P true y x o one more e = subst P (some_same y x e) one
-found_of P false y x o one more e = more e
-
 -- what all have, one that is found has
 find_all : {A : Type 0} (P : A → Type 0) (p : A → Bool) (xs : List A) (x : A) → find p xs ≡ Some x → All P xs → P x
 find_all P p [] x e all = absurd (none_some x e)
 find_all P p (y ∷ ys) x e all =
-    found_of P (p y) y x (find p ys) (All-head P y ys all) (λ f. find_all P p ys x f (All-tail P y ys all)) e
+    cond_some_holds P (p y) y x (find p ys) (All-head P y ys all) (λ f. find_all P p ys x f (All-tail P y ys all)) e
 
 kept_found : (rows : List Row) (builtins : List Builtin) (p : ℕ) (d : Decl) (handed : List Handed) (own : Bool) (name : List ℕ) (o : Option Handed) (known : KnownPlace) → find (λ h. beq h.own own && bytes_eq h.name.now name) handed ≡ o → option_map (λ (h : Handed). h.known) o ≡ Some known → All (IsHanded rows builtins p d) handed → IsKnown rows builtins p (by_source rows p d name (source_of own)) known
 kept_found rows builtins p d handed own name None known found is all = absurd (none_some known is)

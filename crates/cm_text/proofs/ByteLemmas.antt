@@ -1,5 +1,5 @@
 -- The classes of bytes, of which each byte has one, and tests that hold together.
-use Rattle.std.proofs.Common.{◌≡◌, ℕ, Bool, true, false, ◌||◌, ◌==◌, refl, arith, rules}
+use Rattle.std.proofs.Common.{◌≡◌, ℕ, true, false, ◌==◌, refl, arith, rules}
 use Rattle.cm_text.specs.Bytes.{is_mark, is_space, is_quote, is_word_byte}
 use Rattle.cm_text.specs.Pieces.{mark_byte, space_byte, quote_byte, word_byte, class}
 
@@ -38,15 +38,4 @@ word_class b h = rw (word_no_mark b h) (rw (word_no_space b h) (rw (word_no_quot
 pub slash_no_quote : (q : ℕ) → is_quote q ≡ true → (92 == q) ≡ false
 slash_no_quote q h = grind (arith, rules)
 
-pub same : (q : ℕ) → (q == q) ≡ true
-same q = grind (arith, rules)
-
 -- ---- bools
-
-pub either_left : (a b : Bool) → (a || b) ≡ false → a ≡ false
-either_left true b h = h
-either_left false b h = refl
-
-pub either_right : (a b : Bool) → (a || b) ≡ false → b ≡ false
-either_right true b h = absurd (grind (arith, rules))
-either_right false b h = h

@@ -4,11 +4,12 @@ use Rattle.std.specs.Prelude.{slice_index}
 use mathlib.Core.Option.{some, none, some-ne-none, some-injective}
 use Rattle.atomic_table.specs.Table.{State}
 use Rattle.std.proofs.lemmas.Option.{same_Some}
+use Rattle.cm_facts.proofs.Booleans.{true_and_false}
 use Rattle.cm_turn.specs.declared.view.SeatView.{SeatView}
 use Rattle.cm_turn.specs.Rule.{Homes, KeepsRule, Moment, MomentHolds, tickets_out, ticket_count, left_home}
 use Rattle.cm_turn.specs.Laws.{OneTurn, OneCaller, CallersAreMade, OnlyCallersWait, OneTicket, CountsTickets, TicketsFollow, AllAreHeld, OneFrame, HomeFrame, SeenBegins, OutOnlyInTurn, OutInTurn, HomeIsHistory, TurnHasSeenAll, EntriesAreMine, NoOtherEntries}
 use Rattle.cm_turn.proofs.ViewLists.{total-le}
-use Rattle.cm_turn.proofs.Moments.{off, away}
+use Rattle.cm_turn.proofs.Moments.{away}
 
 -- the value at home, and whether anything is
 home_value : {S : Type 0} → Homes S → mathlib.Core.Option.Option (Option S)
@@ -99,7 +100,7 @@ module _ {S E F : Type 0} (story : S → List E) (frame : S → F) (by : E → �
   pub out-only : OutOnlyInTurn s
   out-only idle = elim kept.1.home [
     | inl x ↦ (x.0, x.1)
-    | inr x ↦ off x.3 (idle x.0 x.1 x.2)
+    | inr x ↦ true_and_false _ x.3 (idle x.0 x.1 x.2)
   ]
 
   pub out-in-turn : OutInTurn s

@@ -1,18 +1,16 @@
 -- Facts about one moment that many steps use.
-use Rattle.std.proofs.Common.{◌≡◌, ◌⊎◌, ℕ, ◌+◌, ◌%◌, ◌^◌, List, [], ◌∷◌, ◌++◌, length, set, Some, Bool, true, false, true≢false, refl, sym, ap, ◌∙◌, inl, inr, arith}
+use Rattle.std.proofs.Common.{◌≡◌, ◌⊎◌, ℕ, ◌+◌, ◌%◌, ◌^◌, List, [], ◌∷◌, ◌++◌, length, set, Some, true, false, refl, sym, ap, ◌∙◌, inl, inr, arith}
 use Rattle.std.specs.Prelude.{slice_index, slice_set}
 use mathlib.Core.Option.{some, some-ne-none, some-injective}
 use mathlib.Core.Logic.{dite}
 use native.Mathlib.Decide.{ℕ_discrete}
 use lib.ListN.{get_elem?}
 use Rattle.atomic_table.proofs.Lists.{set_else, at_longer}
+use Rattle.cm_facts.proofs.Booleans.{true_and_false}
 use Rattle.cm_turn.specs.declared.view.SeatView.{SeatView}
 use Rattle.cm_turn.specs.Views.{spent_view}
 use Rattle.cm_turn.specs.Rule.{Homes, total, ticket_count, Moment, left_home, IsHeld, IsQueue, FitsView, MomentHolds, IsHome, IsOut}
 use Rattle.cm_turn.proofs.ViewLists.{each_set, each_snoc, set_at, total-set, total-snoc}
-
-pub off : {A : Type 0} {b : Bool} → b ≡ true → b ≡ false → A
-off t f = absurd (true≢false (sym t ∙ f))
 
 -- the words stay where one of them is only read
 pub same_word : {E : Type 0} (m : Moment E) (ws : List ℕ) → ws ≡ (m.drawn % 2 ^ 64) ∷ (m.served % 2 ^ 64) ∷ [] → slice_set ws 1 (slice_index ws 1) ≡ (m.drawn % 2 ^ 64) ∷ (m.served % 2 ^ 64) ∷ []
@@ -53,14 +51,14 @@ module _ {S E F : Type 0} (story : S → List E) (frame : S → F) (by : E → �
   home_set f log homes views id v w at off_v off_w h =
       elim h [
         | inl x ↦ inl (x.0, x.1, x.2, x.3, each_set (λ _ (u : SeatView E F). u.turn ≡ false) views id w (λ j u _ e. x.4 j u e) off_w)
-        | inr x ↦ inr (x.0, x.1, set_else views id x.0 w (λ same. let e : some v ≡ some x.1 = sym at ∙ (ap (λ k. get_elem? views k) (sym same) ∙ x.2) in off x.3 (ap (λ (u : SeatView E F). u.turn) (sym (some-injective v x.1 e)) ∙ off_v)) ∙ x.2, x.3, x.4)
+        | inr x ↦ inr (x.0, x.1, set_else views id x.0 w (λ same. let e : some v ≡ some x.1 = sym at ∙ (ap (λ k. get_elem? views k) (sym same) ∙ x.2) in true_and_false _ x.3 (ap (λ (u : SeatView E F). u.turn) (sym (some-injective v x.1 e)) ∙ off_v)) ∙ x.2, x.3, x.4)
       ]
 
   -- whoever has the turn has the slot
   pub away : (f : F) (n : ℕ) (m : Moment E) (words : List ℕ) (homes : Homes S) (views : List (SeatView E F)) (id : ℕ) (v : SeatView E F) → MomentHolds story frame by f n m words homes views → get_elem? views id ≡ some v → v.turn ≡ true → homes ≡ left_home v.fresh ∷ []
   away f n m words homes views id v h at on =
       elim h.home [
-        | inl x ↦ off on (x.4 id v at)
+        | inl x ↦ true_and_false _ on (x.4 id v at)
         | inr x ↦
             let mine = (h.each id v at).turn on in
             let theirs = (h.each x.0 x.1 x.2).turn x.3 in
@@ -129,6 +127,6 @@ module _ {S E F : Type 0} (story : S → List E) (frame : S → F) (by : E → �
     gathered = λ k g e. absurd (some-ne-none g (sym e));
     ticket = λ t e. absurd (cc e);
     paid = omega arith;
-    turn = λ on. off on refl;
-    maker = λ on. off on refl;
+    turn = λ on. true_and_false _ on refl;
+    maker = λ on. true_and_false _ on refl;
   }

@@ -7,6 +7,7 @@ use native.Mathlib.Decide.{ℕ_discrete}
 use lib.ListN.{get_elem?}
 use Rattle.atomic_table.specs.Table.{State, step, Splits, Joins, Enters, opening}
 use Rattle.atomic_table.proofs.Lists.{set_else}
+use Rattle.cm_facts.proofs.Booleans.{true_and_false}
 use Rattle.cm_turn.specs.declared.view.SeatView.{SeatView}
 use Rattle.cm_turn.specs.declared.view.Known.{Known}
 use Rattle.cm_turn.specs.History.{StartsWith, entries_by}
@@ -14,7 +15,7 @@ use Rattle.cm_turn.specs.Views.{maker, spent_view, with_one_made, next_pass, wit
 use Rattle.cm_turn.specs.Rule.{ticket_count, Moment, SpeaksFor, FitsView, KeepsRule}
 use Rattle.cm_turn.specs.Plays.{Arrives}
 use Rattle.cm_turn.proofs.ViewLists.{each_set, each_snoc, total-set, total-snoc, total-rest}
-use Rattle.cm_turn.proofs.Moments.{off, home_set, home_snoc, queue_set, queue_snoc, one_more, spent_fits}
+use Rattle.cm_turn.proofs.Moments.{home_set, home_snoc, queue_set, queue_snoc, one_more, spent_fits}
 
 module _ {S E F : Type 0} (story : S → List E) (frame : S → F) (by : E → ℕ) where
   abbrev Rule : S × ℕ → State (Option S) (SeatView E F) → Type 0
@@ -78,8 +79,8 @@ module _ {S E F : Type 0} (story : S → List E) (frame : S → F) (by : E → �
         gathered = λ i g e. absurd (some-ne-none g (sym e));
         ticket = λ t e. absurd (cc e);
         paid = omega arith;
-        turn = λ on. off on refl;
-        maker = λ on. off on refl;
+        turn = λ on. true_and_false _ on refl;
+        maker = λ on. true_and_false _ on refl;
       }
 
   pub makes_one : (key : S × ℕ) (id : ℕ) (v : SeatView E F) → v.makes ≡ true → v.ticket ≡ None → v.turn ≡ false → 0 < v.parts → Splits (Rule key) id v (with_one_made v) (next_pass v)
@@ -159,7 +160,7 @@ module _ {S E F : Type 0} (story : S → List E) (frame : S → F) (by : E → �
         ticket = h.ticket;
         paid = let p = h.paid in omega arith;
         turn = h.turn;
-        maker = λ on. off on plain;
+        maker = λ on. true_and_false _ on plain;
       }
 
   pub gathers : (key : S × ℕ) (id other : ℕ) (v w : SeatView E F) (c : ℕ) → v.turn ≡ false → v.makes ≡ false → w.turn ≡ false → w.ticket ≡ None → w.caller ≡ Some c → Joins (Rule key) id v other w (with_pass v w) spent_view
@@ -212,7 +213,7 @@ module _ {S E F : Type 0} (story : S → List E) (frame : S → F) (by : E → �
         told = ([], refl);
         called = λ c e. absurd (cc e);
         own = λ c e. absurd (cc e);
-        nameless = λ _ plain. off refl plain;
+        nameless = λ _ plain. true_and_false _ refl plain;
         gathered = λ k g e. absurd (some-ne-none g (sym e));
         ticket = λ t e. let is : 0 ≡ t = cc e in (refl, omega arith, omega arith);
         paid = omega arith;
@@ -253,7 +254,7 @@ module _ {S E F : Type 0} (story : S → List E) (frame : S → F) (by : E → �
         | inr x ↦
             let theirs = h.each x.0 x.1 x.2 in
             let sum = h.parts in
-            let apart : x.0 ≢ id = λ same. let e : x.1 ≡ v = some-injective x.1 v (sym x.2 ∙ (ap (λ k. get_elem? s.views k) same ∙ at)) in off x.3 (ap (λ (u : SeatView E F). u.turn) e ∙ idle) in
+            let apart : x.0 ≢ id = λ same. let e : x.1 ≡ v = some-injective x.1 v (sym x.2 ∙ (ap (λ k. get_elem? s.views k) same ∙ at)) in true_and_false _ x.3 (ap (λ (u : SeatView E F). u.turn) e ∙ idle) in
             let none_left : x.1.parts ≡ 0 = total-rest (λ (u : SeatView E F). u.parts) s.views id x.0 v x.1 at (omega arith) apart x.2 in
             let one : ticket_count x.1.ticket ≡ 1 = ap ticket_count (theirs.turn x.3).0 in
             let paid = theirs.paid in

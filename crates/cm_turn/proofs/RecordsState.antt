@@ -6,6 +6,7 @@ use lib.ListN.{get_elem?}
 use Rattle.std.proofs.lemmas.Bool.Decides.{nat_tests}
 use Rattle.atomic_table.specs.Table.{State, step, keeps, Allows, Splits, Joins}
 use Rattle.atomic_table.proofs.Lists.{set_again, set_else}
+use Rattle.cm_facts.proofs.Booleans.{true_and_false}
 use Rattle.cm_turn.specs.declared.view.SeatView.{SeatView}
 use Rattle.cm_turn.specs.History.{StartsWith, entries_by, longer, longer_if}
 use Rattle.cm_turn.specs.Views.{spent_view, with_entries, with_longer, note_of, with_told}
@@ -13,7 +14,7 @@ use Rattle.cm_turn.specs.Rule.{ticket_count, Moment, FitsView, MomentHolds, Keep
 use Rattle.cm_turn.specs.Plays.{RecordsState, Learns}
 use Rattle.cm_turn.proofs.ViewLists.{each_set, set_at}
 use Rattle.cm_turn.proofs.Histories.{entries-between, starts-trans, starts-refl, starts-longer, entries-append, entries-others}
-use Rattle.cm_turn.proofs.Moments.{off, home_set, same_total, same_word, queue_set, away, only_turn, change, one_more, spent_fits}
+use Rattle.cm_turn.proofs.Moments.{home_set, same_total, same_word, queue_set, away, only_turn, change, one_more, spent_fits}
 
 module _ {S E F : Type 0} (story : S → List E) (frame : S → F) (by : E → ℕ) where
   abbrev Rule : S × ℕ → State (Option S) (SeatView E F) → Type 0
@@ -117,7 +118,7 @@ module _ {S E F : Type 0} (story : S → List E) (frame : S → F) (by : E → �
     gathered = h.gathered;
     ticket = h.ticket;
     paid = h.paid;
-    turn = λ on. off on idle;
+    turn = λ on. true_and_false _ on idle;
     maker = h.maker;
   }
 
@@ -160,8 +161,8 @@ module _ {S E F : Type 0} (story : S → List E) (frame : S → F) (by : E → �
     gathered = λ k g e. absurd (some-ne-none g (sym e));
     ticket = λ t e. absurd (cc e);
     paid = omega arith;
-    turn = λ on. off on refl;
-    maker = λ on. off on refl;
+    turn = λ on. true_and_false _ on refl;
+    maker = λ on. true_and_false _ on refl;
   }
 
   pub notes : (key : S × ℕ) (id : ℕ) (v : SeatView E F) → Splits (Rule key) id v v (note_of v)

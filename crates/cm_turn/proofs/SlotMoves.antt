@@ -6,10 +6,11 @@ use native.Mathlib.Decide.{ℕ_discrete}
 use lib.ListN.{get_elem?}
 use Rattle.atomic_table.specs.Table.{State, Act, keeps, takes, gives, chain, Valid, homes_after, carried_after, stepped}
 use Rattle.atomic_table.proofs.Lists.{set_else, at_longer}
+use Rattle.cm_facts.proofs.Booleans.{true_and_false}
 use Rattle.cm_turn.specs.declared.view.SeatView.{SeatView}
 use Rattle.cm_turn.specs.Rule.{Homes, KeepsRule}
 use Rattle.cm_turn.specs.MovesSlots.{AreOut, MayDo, HasTurn, MovesSlots, StepsMove, ArrivalsMove, OnlyTurnMoves}
-use Rattle.cm_turn.proofs.Moments.{off, away}
+use Rattle.cm_turn.proofs.Moments.{away}
 use Rattle.cm_turn.proofs.ViewLists.{at_snoc_here}
 
 -- What one slot and those of a seat are while it acts: the slot is at home with x, or the seat has it.
@@ -63,7 +64,7 @@ module _ {S E F : Type 0} (story : S → List E) (frame : S → F) (by : E → �
           | inl y ↦ m.homes ∙ as_it_was (Some x.0) (Some y.0) s.homes m.slots m.act x.1 m.may.0 m.may.1 (sym m.homes ∙ y.1)
           | inr y ↦ dite (ℕ_discrete y.0 i)
               (λ same. absurd (after (y.1, ap (λ k. get_elem? t.views k) (sym same) ∙ y.2, y.3)))
-              (λ apart. off y.3 (x.4 y.0 y.1 ((m.others y.0 y.1 apart).1 y.2)))
+              (λ apart. true_and_false _ y.3 (x.4 y.0 y.1 ((m.others y.0 y.1 apart).1 y.2)))
         ]
         | inr x ↦ dite (ℕ_discrete x.0 i)
             (λ same. absurd (before (x.1, ap (λ k. get_elem? s.views k) (sym same) ∙ x.2, x.3)))

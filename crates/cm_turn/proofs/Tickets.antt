@@ -8,6 +8,7 @@ use lib.ListN.{get_elem?}
 use Rattle.atomic_table.specs.Table.{State, step, keeps, takes, gives, Allows, stepped}
 use Rattle.atomic_table.proofs.Lists.{set_again, one_turn}
 use Rattle.std.proofs.lemmas.Bool.{false_from_ne_true}
+use Rattle.cm_facts.proofs.Booleans.{true_and_false}
 use Rattle.cm_turn.specs.declared.view.SeatView.{SeatView}
 use Rattle.cm_turn.specs.History.{StartsWith, entries_by}
 use Rattle.cm_turn.specs.Views.{with_ticket, with_turn, with_slot, without_turn}
@@ -15,7 +16,7 @@ use Rattle.cm_turn.specs.Rule.{tickets_out, parts_of, ticket_count, Moment, left
 use Rattle.cm_turn.specs.Plays.{ticket_word, Looks, Draws, TakesEmpty, PassesOn}
 use Rattle.cm_turn.proofs.ViewLists.{each_set, set_at, total-set, total-le}
 use Rattle.cm_turn.proofs.Histories.{starts-refl}
-use Rattle.cm_turn.proofs.Moments.{off, one_holder, home_set, same_total, same_word, queue_set, queue_apart, away, only_turn}
+use Rattle.cm_turn.proofs.Moments.{one_holder, home_set, same_total, same_word, queue_set, queue_apart, away, only_turn}
 
 pub mod_suc : (a : ℕ) → (a % 2 ^ 64 + 1) % 2 ^ 64 ≡ (a + 1) % 2 ^ 64
 mod_suc a = omega arith
@@ -63,7 +64,7 @@ module _ {S E F : Type 0} (story : S → List E) (frame : S → F) (by : E → �
     gathered = h.gathered;
     ticket = λ t e. let same : m.drawn ≡ t = cc e in let is : eqb t m.drawn ≡ true = eq-eqb t m.drawn (sym same) in (rw is refl, omega arith, omega arith);
     paid = omega arith;
-    turn = λ on. off on idle;
+    turn = λ on. true_and_false _ on idle;
     maker = h.maker;
   }
 
@@ -179,7 +180,7 @@ module _ {S E F : Type 0} (story : S → List E) (frame : S → F) (by : E → �
             let theirs = (h.each x.0 x.1 x.2).turn x.3 in
             let holder : x.0 ≡ id = one_holder story frame by key m x.0 id x.1 v m.served (h.each x.0 x.1 x.2) fit theirs.0 mine in
             let e : x.1 ≡ v = some-injective x.1 v (sym x.2 ∙ (ap (λ k. get_elem? s.views k) holder ∙ at)) in
-            off x.3 (ap (λ (u : SeatView E F). u.turn) e ∙ idle)
+            true_and_false _ x.3 (ap (λ (u : SeatView E F). u.turn) e ∙ idle)
       ])
       (λ miss. (v, keeps, tt, still key s id v kept at, ((λ hit. absurd (miss hit)), (λ _. refl))))
 
@@ -243,7 +244,7 @@ module _ {S E F : Type 0} (story : S → List E) (frame : S → F) (by : E → �
     gathered = h.gathered;
     ticket = λ t e. absurd (cc e);
     paid = omega arith;
-    turn = λ on. off on refl;
+    turn = λ on. true_and_false _ on refl;
     maker = h.maker;
   }
 

@@ -2,12 +2,11 @@ use Rattle.std.proofs.Common.{◌≡◌, ℕ, ◌<◌, List, [], ◌∷◌, ◌+
 use Rattle.std.specs.Prelude.{slice_get, position, ◌==◌, if◌then◌else◌}
 use Rattle.std.specs.Bool.{Decides}
 use Rattle.std.specs.Cmp.Lexicographic.{bytes_decides}
-use Rattle.std.proofs.lemmas.Bool.{eqb-true, eq-eqb}
+use Rattle.std.proofs.lemmas.Bool.{eqb-true, eq-eqb, or_cases}
 use Rattle.std.proofs.lemmas.List.{get_or-take, length-take}
 use Rattle.std.proofs.lemmas.List.Quantifiers.{position-Some}
 use Rattle.std.proofs.lemmas.Option.{slice_get_within, slice_get-get_or}
 use Rattle.std.specs.Cmp.{first_so, second_so}
-use Rattle.cm_decl.proofs.Sameness.{or_split}
 use Rattle.cm_decl.specs.Rules.{is_inside}
 use Rattle.cm_decl.specs.declared.rows.Usage.{Usage}
 use Rattle.cm_decl.specs.declared.rows.Offer.{Offer}
@@ -97,7 +96,7 @@ path_near a b e =
 
 -- and near one that it lies inside of, or the other way round
 pub nested_near : (a b : Usage) → are_paths_nested a b ≡ true → near (usage_key a) (usage_key b) ≡ true
-nested_near a b e = elim (or_split (is_inside a.path b.path) (is_inside b.path a.path) e) as (λ _. near (zeroed a.path) (zeroed b.path) ≡ true) [
+nested_near a b e = elim (or_cases (is_inside a.path b.path) (is_inside b.path a.path) e) as (λ _. near (zeroed a.path) (zeroed b.path) ≡ true) [
   | inl one ↦ right_near (zeroed a.path) (zeroed b.path) (inside_covered a.path b.path one)
   | inr other ↦ left_near (zeroed a.path) (zeroed b.path) (inside_covered b.path a.path other)
 ]

@@ -1,5 +1,5 @@
 -- A declaration in which nothing strongly depends on a child has no cycle.
-use Rattle.std.proofs.Common.{◌≡◌, List, [], ◌∷◌, ◌++◌, Bool, true, false, cond, ◌&&◌, ◌||◌, true≢false, refl, sym, ap, ◌∙◌, subst, map, IsTrue}
+use Rattle.std.proofs.Common.{◌≡◌, List, [], ◌∷◌, ◌++◌, Bool, true, false, cond, ◌&&◌, true≢false, refl, sym, ap, ◌∙◌, subst, map, IsTrue}
 use Rattle.std.specs.Prelude.{filter}
 use Rattle.std.specs.List.{list_any}
 use Rattle.std.specs.Str.{bytes_eq}
@@ -7,6 +7,7 @@ use Rattle.std.proofs.lemmas.List.Folds.{list_any-append}
 use Rattle.std.proofs.lemmas.Bool.{or_from}
 use Rattle.std.specs.Cmp.{first_so}
 use Rattle.cm_names.specs.declared.child.ChildName.{ChildName}
+use Rattle.cm_facts.proofs.Booleans.{or_false_first, or_false_second}
 use Rattle.cm_decl.specs.declared.decl.Decl.{Decl}
 use Rattle.cm_decl.specs.declared.rows.Give.{Give}
 use Rattle.cm_decl.specs.declared.rows.Offer.{Offer}
@@ -20,19 +21,11 @@ use Rattle.cm_valid.specs.Cycles.{needs_child}
 
 -- ---- tests
 
-left_false : (a b : Bool) → (a || b) ≡ false → a ≡ false
-left_false false b e = refl
-left_false true b e = e
-
-right_false : (a b : Bool) → (a || b) ≡ false → b ≡ false
-right_false false b e = e
-right_false true b e = absurd (true≢false e)
-
 -- where no item passes, none is left
 none_left : {A : Type 0} (keep : A → Bool) (xs : List A) → list_any keep xs ≡ false → filter keep xs ≡ []
 none_left keep [] e = refl
 none_left keep (x ∷ xs) e =
-    ap (λ b. cond b (x ∷ filter keep xs) (filter keep xs)) (left_false (keep x) (list_any keep xs) e) ∙ none_left keep xs (right_false (keep x) (list_any keep xs) e)
+    ap (λ b. cond b (x ∷ filter keep xs) (filter keep xs)) (or_false_first (keep x) (list_any keep xs) e) ∙ none_left keep xs (or_false_second (keep x) (list_any keep xs) e)
 
 one_more : {A : Type 0} (p : A → Bool) (b : Bool) (x : A) (xs : List A) → p x ≡ false → list_any p xs ≡ false → list_any p (cond b (x ∷ xs) xs) ≡ false
 one_more p true x xs none rest = or_from (p x) (list_any p xs) none rest
@@ -42,13 +35,13 @@ one_more p false x xs none rest = rest
 of_kept : {A : Type 0} (keep p : A → Bool) (xs : List A) → list_any p xs ≡ false → list_any p (filter keep xs) ≡ false
 of_kept keep p [] e = refl
 of_kept keep p (x ∷ xs) e =
-    one_more p (keep x) x (filter keep xs) (left_false (p x) (list_any p xs) e) (of_kept keep p xs (right_false (p x) (list_any p xs) e))
+    one_more p (keep x) x (filter keep xs) (or_false_first (p x) (list_any p xs) e) (of_kept keep p xs (or_false_second (p x) (list_any p xs) e))
 
 -- and by none that is made of one
 of_made : {A B : Type 0} (f : A → B) (p : B → Bool) (xs : List A) → list_any (λ x. p (f x)) xs ≡ false → list_any p (map f xs) ≡ false
 of_made f p [] e = refl
 of_made f p (x ∷ xs) e =
-    or_from (p (f x)) (list_any p (map f xs)) (left_false (p (f x)) (list_any (λ y. p (f y)) xs) e) (of_made f p xs (right_false (p (f x)) (list_any (λ y. p (f y)) xs) e))
+    or_from (p (f x)) (list_any p (map f xs)) (or_false_first (p (f x)) (list_any (λ y. p (f y)) xs) e) (of_made f p xs (or_false_second (p (f x)) (list_any (λ y. p (f y)) xs) e))
 
 -- ---- sources
 
@@ -72,15 +65,15 @@ no_source : (c : ChildName) (gives : List Give) → list_any (λ g. is_strong g.
 no_source c [] e = refl
 no_source c (g ∷ gs) e =
     let strong : Give → Bool = λ h. is_strong h.dependency in
-    let rest = no_source c gs (right_false (strong g && is_from_child g.from) (list_any (λ h. strong h && is_from_child h.from) gs) e) in
+    let rest = no_source c gs (or_false_second (strong g && is_from_child g.from) (list_any (λ h. strong h && is_from_child h.from) gs) e) in
     ap (list_any (is_from_node (Child c))) (cond_map (λ h. h.from) (strong g) g (filter strong gs))
-    ∙ one_source c (strong g) g.from (map (λ h. h.from) (filter strong gs)) (left_false (strong g && is_from_child g.from) (list_any (λ h. strong h && is_from_child h.from) gs) e) rest
+    ∙ one_source c (strong g) g.from (map (λ h. h.from) (filter strong gs)) (or_false_first (strong g && is_from_child g.from) (list_any (λ h. strong h && is_from_child h.from) gs) e) rest
 
 -- ---- edges
 
 module _ (d : Decl) (free : needs_child d ≡ false) where
   own_uses : list_any (λ u. is_strong u.dependency && is_from_child u.from) d.uses ≡ false
-  own_uses = left_false _ _ free
+  own_uses = or_false_first _ _ free
 
   own_none : own_sources d ≡ []
   own_none = ap (map (λ u. u.from)) (none_left (λ u. is_strong u.dependency && is_from_child u.from) d.uses own_uses)
@@ -88,7 +81,7 @@ module _ (d : Decl) (free : needs_child d ≡ false) where
   given_none : (k : ChildName) → list_any (λ (g : Give). is_strong g.dependency && is_from_child g.from) (offers_to d k ++ []) ≡ false
   given_none k =
       let aimed : List Offer = filter (λ (o : Offer). bytes_eq o.to (target_of k)) d.offers in
-      let none : list_any (λ (o : Offer). is_strong o.give.dependency && is_from_child o.give.from) aimed ≡ false = of_kept (λ (o : Offer). bytes_eq o.to (target_of k)) (λ (o : Offer). is_strong o.give.dependency && is_from_child o.give.from) d.offers (right_false _ _ free) in
+      let none : list_any (λ (o : Offer). is_strong o.give.dependency && is_from_child o.give.from) aimed ≡ false = of_kept (λ (o : Offer). bytes_eq o.to (target_of k)) (λ (o : Offer). is_strong o.give.dependency && is_from_child o.give.from) d.offers (or_false_second _ _ free) in
       let made : list_any (λ (g : Give). is_strong g.dependency && is_from_child g.from) (offers_to d k) ≡ false = of_made (λ (o : Offer). o.give) (λ (g : Give). is_strong g.dependency && is_from_child g.from) aimed none in
       list_any-append (λ (g : Give). is_strong g.dependency && is_from_child g.from) (offers_to d k) []
       ∙ or_from _ false made refl

@@ -10,6 +10,7 @@ use Rattle.std.proofs.lemmas.Cmp.{nat_list_eq_equiv}
 use Rattle.std.specs.declared.cmp.Reverse.{Reverse}
 use denote.Ref.{Bor}
 use Rattle.std.proofs.Math.Bool.{or_self_left}
+use Rattle.cm_facts.proofs.Booleans.{or_swap}
 use Rattle.cm_valid.specs.Lookup.{has}
 
 -- the names, by their bytes
@@ -32,12 +33,6 @@ found_by_bytes name (k ∷ ks) =
     (is_eq-slice_cmp k.0.now name ∙ flipped k.0.now name)
     ∙ ap (λ v. bytes_eq name k.0.now || v) (found_by_bytes name ks)
 
-swapped : (p q r : Bool) → (p || (q || r)) ≡ (q || (p || r))
-swapped true true r = refl
-swapped true false r = refl
-swapped false true r = refl
-swapped false false r = refl
-
 -- a key that is put in is found beside the others
 pub inserted : (name : List ℕ) (key : Reverse (Bor (List ℕ))) (ks : List (Reverse (Bor (List ℕ)))) → has (texts (insert_key text_cmp ks key)) name ≡ (bytes_eq name key.0.now || has (texts ks) name)
 inserted name key [] = refl
@@ -49,7 +44,7 @@ inserted name key (k ∷ ks) = by (text_cmp key k) refl (inserted name key ks)
         let same : key.0.now ≡ k.0.now = sym ((bytes_decides k.0.now key.0.now).0 (sym (is_eq-slice_cmp k.0.now key.0.now) ∙ ap is_eq e)) in
         sym (or_self_left (bytes_eq name k.0.now) (has (texts ks) name)) ∙ ap (λ t. bytes_eq name t || (bytes_eq name k.0.now || has (texts ks) name)) (sym same)
     by Greater e later =
-        ap (λ v. bytes_eq name k.0.now || v) later ∙ swapped (bytes_eq name k.0.now) (bytes_eq name key.0.now) (has (texts ks) name)
+        ap (λ v. bytes_eq name k.0.now || v) later ∙ or_swap (bytes_eq name k.0.now) (bytes_eq name key.0.now) (has (texts ks) name)
 
 or_comm : (p q : Bool) → (p || q) ≡ (q || p)
 or_comm true true = refl

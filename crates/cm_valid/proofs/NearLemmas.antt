@@ -1,9 +1,9 @@
-use Rattle.std.proofs.Common.{◌≡◌, ℕ, ◌+◌, ◌<◌, ◌≤◌, List, [], ◌∷◌, length, Bool, true, false, ◌&&◌, true≢false, Some, refl, sym, ◌∙◌, ap, subst, inl, inr, ◌⊎◌, arith, nat_cmp, Ordering, Less, Equal, Greater, get_or}
+use Rattle.std.proofs.Common.{◌≡◌, ℕ, ◌+◌, ◌<◌, ◌≤◌, List, [], ◌∷◌, length, Bool, true, false, ◌&&◌, true≢false, Some, refl, sym, ◌∙◌, ap, subst, inl, inr, ◌⊎◌, arith, nat_cmp, Ordering, get_or}
 use Rattle.std.specs.Prelude.{slice_get, nat_eq, ◌==◌, min, max}
 use Rattle.std.specs.List.{starts_with}
 use Rattle.std.specs.Ordering.{is_lt, ordering_then}
 use Rattle.std.specs.Cmp.Lexicographic.{slice_cmp}
-use Rattle.std.proofs.lemmas.Bool.{eqb-true, eq-eqb, cases_lt, cases_order, false_from_ne_true}
+use Rattle.std.proofs.lemmas.Bool.{eqb-true, eq-eqb, cases_lt, cases_order, false_from_ne_true, or_cases}
 use Rattle.std.proofs.lemmas.Bool.Decides.{nat_tests}
 use Rattle.std.specs.List.{Contains}
 use Rattle.std.specs.List.Sorted.{IsSorted, IsPermutation}
@@ -12,7 +12,7 @@ use Rattle.std.proofs.lemmas.Cmp.{then_total, on_total, nat_cmp_total, nat_list_
 use Rattle.std.proofs.lemmas.List.Sorted.{ranks_by, sorted_far, Contains-permutation}
 use Rattle.std.proofs.lemmas.Option.{slice_get_within, slice_get-get_or, get_or_from_slice_get}
 use Rattle.std.proofs.lemmas.Bool.{and_from}
-use Rattle.cm_decl.proofs.Sameness.{or_split}
+use Rattle.cm_facts.proofs.Orders.{then_not_less}
 use Rattle.cm_valid.specs.declared.key.RowKey.{RowKey}
 use Rattle.cm_valid.specs.Near.{covers, near, AtMost, IsInOrder, AreKeys, ApartKeys, KeysAreApart}
 
@@ -154,7 +154,7 @@ walk_on keys k outer apart o q order walked there at uncovered =
 -- at the end of the walk the keys before the bound are apart
 pub walk_ends : (keys : List RowKey) (k outer apart : ℕ) → IsInOrder keys → Walked keys k outer apart → length keys ≤ k → ApartKeys keys apart
 walk_ends keys k outer apart order walked whole = λ i j a b at there before bound.
-    false_from_ne_true (near a.text b.text) (λ e. elim (or_split (covers a.text b.text) (covers b.text a.text) e) as (λ _. ⊥) [
+    false_from_ne_true (near a.text b.text) (λ e. elim (or_cases (covers a.text b.text) (covers b.text a.text) e) as (λ _. ⊥) [
       | inl f ↦ uncovered i j a b at there (omega arith) bound (λ same. absurd (omega arith)) f
       | inr f ↦ uncovered j i b a there at bound (omega arith) (λ same. absurd (omega arith)) f
     ])
@@ -207,11 +207,6 @@ pub record AreKeysBelow {A : Type 0} (key : A → List ℕ) (rows : List A) (n :
 abbrev pub key_cmp : RowKey → RowKey → Ordering
 key_cmp a b = ordering_then (slice_cmp nat_cmp a.text b.text) (nat_cmp a.row b.row)
 
-text_decides : (o p : Ordering) → is_lt (ordering_then o p) ≡ false → is_lt o ≡ false
-text_decides Less p h = h
-text_decides Equal p h = refl
-text_decides Greater p h = refl
-
 key_cmp_total : IsTotalOrder key_cmp
 key_cmp_total = then_total (on_total (λ (a : RowKey). a.text) nat_list_cmp_total) (on_total (λ (a : RowKey). a.row) nat_cmp_total)
 
@@ -223,7 +218,7 @@ in_order keys sorted = λ i j a b upto at there.
     let one : get_or keys i a ≡ a = get_or_from_slice_get keys i a a at in
     let two : get_or keys j a ≡ b = get_or_from_slice_get keys j b a there in
     let near_by : is_lt (key_cmp b a) ≡ false = subst (λ (x : RowKey). is_lt (key_cmp b x) ≡ false) one (subst (λ (x : RowKey). is_lt (key_cmp x (get_or keys i a)) ≡ false) two far) in
-    text_decides (slice_cmp nat_cmp b.text a.text) (nat_cmp b.row a.row) near_by
+    then_not_less (slice_cmp nat_cmp b.text a.text) (nat_cmp b.row a.row) near_by
 
 placed : (keys sorted : List RowKey) (i : ℕ) (x : RowKey) → IsPermutation keys sorted → slice_get keys i ≡ Some x → (p : ℕ) × (slice_get sorted p ≡ Some x)
 placed keys sorted i x moved at =

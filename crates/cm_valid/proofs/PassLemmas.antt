@@ -1,6 +1,7 @@
 use Rattle.std.proofs.Common.{◌≡◌, ℕ, zero, suc, ◌+◌, ◌<◌, ◌≤◌, List, [], ◌∷◌, get_or, true, false, true≢false, Option, Some, None, refl, sym, ◌∙◌, ap, subst, inl, inr, arith}
 use Rattle.std.specs.Prelude.{is_some}
 use Rattle.std.proofs.lemmas.Bool.{cases_order, cases_lt}
+use Rattle.cm_facts.proofs.Options.{is_some_false}
 use Rattle.cm_decl.specs.declared.decl.Decl.{Decl}
 use Rattle.cm_decl.specs.declared.section.Section.{Section}
 use Rattle.cm_decl.specs.declared.section.Section.TheVariants.{Manifest, Program, Children, Collections, Capabilities, Uses, Offers, Exposes, Environments, Graph}
@@ -29,14 +30,10 @@ same_rows d Graph = refl
 pub none_yet : (d : Decl) (s : Section) → FindsFault d (Below s 0) None
 none_yet d s = λ g st here. absurd (omega arith)
 
-none_found : (o : Option FoundFault) → is_some o ≡ false → o ≡ None
-none_found None e = refl
-none_found (Some f) e = absurd (true≢false e)
-
 -- nor below the next row, if there is none at this one
 pub none_more : (d : Decl) (s : Section) (n : ℕ) (o : Option FoundFault) → FindsFault d (Below s n) None → FindsFault d (At s n) o → is_some o ≡ false → FindsFault d (Below s (n + 1)) None
 none_more d s n o none at e =
-    first_below_more d s n None None none (subst (λ (p : Option FoundFault). FindsFault d (At s n) p) (none_found o e) at)
+    first_below_more d s n None None none (subst (λ (p : Option FoundFault). FindsFault d (At s n) p) (is_some_false o e) at)
 
 -- nor in the section, if there is none at any of its rows
 pub none_in : (d : Decl) (s : Section) (n : ℕ) → rows_of d s ≤ n → FindsFault d (Below s n) None → FindsFault d (In s) None

@@ -4,6 +4,7 @@ use Rattle.std.specs.List.{list_any, position_from}
 use Rattle.std.proofs.lemmas.Iterator.Adapters.{position_from-zero}
 use Rattle.std.specs.Option.{option_map_or}
 use Rattle.std.proofs.lemmas.Option.{slice_get_read}
+use Rattle.cm_facts.proofs.Options.{is_some_false}
 use Rattle.cm_decl.specs.declared.decl.Decl.{Decl}
 use Rattle.cm_decl.specs.declared.rows.Child.{Child}
 use Rattle.cm_decl.specs.declared.rows.Collection.{Collection}
@@ -141,13 +142,9 @@ some_from {A} test i (x ∷ rows) = by (test x) (some_from test (i + 1) rows)
 pub position_any : {A : Type 0} (test : A → Bool) (rows : List A) → is_some (position test rows) ≡ list_any test rows
 position_any {A} test rows = ap is_some (position_from-zero test rows) ∙ some_from test 0 rows
 
-none_there : {A : Type 0} (o : Option A) → is_some o ≡ false → o ≡ None
-none_there None e = refl
-none_there (Some x) e = absurd (true≢false e)
-
 -- no child has a name that none of them has
 pub no_child : (d : Decl) (name : List ℕ) → is_child_name d name ≡ false → position (λ k. bytes_eq k.name name) d.children ≡ None
-no_child d name e = none_there _ (position_any (λ (k : Child). bytes_eq k.name name) d.children ∙ e)
+no_child d name e = is_some_false _ (position_any (λ (k : Child). bytes_eq k.name name) d.children ∙ e)
 
 -- some child has a name that one of them has
 pub some_child : (d : Decl) (name : List ℕ) → is_child_name d name ≡ true → position (λ k. bytes_eq k.name name) d.children ≡ None → ⊥

@@ -3,6 +3,7 @@ use Rattle.std.proofs.Common.{◌≡◌, ℕ, suc, List, [], ◌∷◌, ◌++◌
 use Rattle.std.specs.Cmp.{unsigned_Decides, first_so, second_so}
 use Rattle.std.proofs.lemmas.Slice.Eq.{bytes_eq-Decides}
 use Rattle.std.proofs.lemmas.Option.{same_Some, none-some}
+use Rattle.cm_facts.proofs.Options.{is_some_false}
 use Rattle.cm_world.specs.declared.row.Row.{Row}
 use Rattle.cm_world.specs.declared.frame.Builtin.{Builtin}
 use Rattle.cm_world.specs.declared.route.Start.TheVariants.{UseAt}
@@ -96,10 +97,6 @@ none_by : (o : Option Walked) → cond (is_some o) o None ≡ o
 none_by None = refl
 none_by (Some v) = refl
 
-is_none_by : (o : Option Walked) → is_some o ≡ false → o ≡ None
-is_none_by None is = refl
-is_none_by (Some v) is = absurd (true≢false is)
-
 -- ---- a put
 
 replaced_by : (u : Bool) (xs : List CachedAnswer) (i j : ℕ) (path other : List ℕ) (v : Walked) → same_use i path j other ≡ u → is_some (kept_at xs i path) ≡ true → kept_at (edited i path v xs) j other ≡ cond u (Some v) (kept_at xs j other)
@@ -126,7 +123,7 @@ joined_kept false xs i j path other v none = added_by (same_use i path j other) 
 put_kept : (some : Bool) (xs : List CachedAnswer) (i j : ℕ) (path other : List ℕ) (v : Walked) → is_some (kept_at xs i path) ≡ some → kept_at (cond some (edited i path v xs) (joined_by (answer_of i path v) xs)) j other ≡ cond (same_use i path j other) (Some v) (kept_at (cond some xs (cond (nat_le most (length xs)) [] xs)) j other)
 put_kept true xs i j path other v is = replaced_by (same_use i path j other) xs i j path other v refl is
 put_kept false xs i j path other v is =
-    joined_kept (nat_le most (length xs)) xs i j path other v (is_none_by (kept_at xs i path) is)
+    joined_kept (nat_le most (length xs)) xs i j path other v (is_some_false (kept_at xs i path) is)
 
 pub what_is_put_is_kept : WhatIsPutIsKept
 what_is_put_is_kept xs i j path other v = put_kept (is_some (kept_at xs i path)) xs i j path other v refl

@@ -3,6 +3,8 @@ use Rattle.std.proofs.Common.{◌≡◌, ℕ, ◌<◌, List, [], ◌∷◌, Bool
 use Rattle.std.specs.List.{list_any}
 use Rattle.std.specs.Option.{option_map_or}
 use Rattle.std.specs.Cmp.{unsigned_Decides}
+use Rattle.cm_facts.proofs.Numbers.{eq_self, eq_of_lt}
+use Rattle.cm_facts.proofs.Booleans.{or_false_first, or_false_second}
 use Rattle.cm_world.specs.declared.row.Row.{Row}
 use Rattle.cm_world.specs.declared.action.Act.{Act}
 use Rattle.cm_world.specs.declared.action.ActKind.TheVariants.{Stop}
@@ -27,17 +29,6 @@ use Rattle.cm_cache.specs.Laws.{BareRowsStay, WalksStay}
 use Rattle.cm_cache.proofs.trees.Reading.{walks_read_bare_rows}
 
 -- ---- tests
-
-pub or_first : (a b : Bool) → (a || b) ≡ false → a ≡ false
-or_first false b e = refl
-or_first true b e = e
-
-pub or_second : (a b : Bool) → (a || b) ≡ false → b ≡ false
-or_second false b e = e
-or_second true b e = absurd (true≢false e)
-
-own : (i : ℕ) → (i == i) ≡ true
-own i = (unsigned_Decides i i).1 refl
 
 -- ---- a change of one row
 
@@ -104,16 +95,12 @@ unfoldable pub AllLive : List Row → List Row → Type 0
 AllLive rows [] = Unit {0}
 AllLive rows (x ∷ xs) = (row_of rows x.inc ≡ Some x) × AllLive rows xs
 
-apart_by : (t : Bool) (n m : ℕ) → (n == m) ≡ t → n < m → t ≡ false
-apart_by false n m is less = refl
-apart_by true n m is less = let e : n ≡ m = (unsigned_Decides n m).0 is in absurd (omega arith)
-
 live_later : (y : Row) (ys xs : List Row) → ((s : ℕ) → IsSome (row_of ys s) → y.inc < s) → AllLive ys xs → AllLive (y ∷ ys) xs
 unfolding AllLive
 live_later y ys [] low live = tt
 live_later y ys (x ∷ xs) low live = (
   (let less : y.inc < x.inc = low x.inc (ap is_some live.0) in
-      ap (λ t. cond t (Some y) (row_of ys x.inc)) (apart_by (y.inc == x.inc) y.inc x.inc refl less) ∙ live.0),
+      ap (λ t. cond t (Some y) (row_of ys x.inc)) (eq_of_lt (y.inc == x.inc) y.inc x.inc refl less) ∙ live.0),
   live_later y ys xs low live.1,
 )
 
@@ -121,7 +108,7 @@ pub all_live : (next : ℕ) (rows : List Row) → IncarnationsIncrease next rows
 unfolding AllLive
 all_live next [] up = tt
 all_live next (y ∷ ys) up = (
-  ap (λ t. cond t (Some y) (row_of ys y.inc)) (own y.inc),
+  ap (λ t. cond t (Some y) (row_of ys y.inc)) (eq_self y.inc),
   live_later y ys ys up.0.1 (all_live next ys up.1),
 )
 
@@ -133,8 +120,8 @@ none_passes_by false d j x r o is here later e = later e
 none_passes : (d : ℕ → Bool) (rows : List Row) (j : ℕ) (r : Row) → list_any (λ x. d x.inc) rows ≡ false → row_of rows j ≡ Some r → d j ≡ false
 none_passes d [] j r none e = absurd (none_some r e)
 none_passes d (x ∷ xs) j r none e =
-    none_passes_by (x.inc == j) d j x r (row_of xs j) refl (or_first (d x.inc) (list_any (λ y. d y.inc) xs) none)
-    (none_passes d xs j r (or_second (d x.inc) (list_any (λ y. d y.inc) xs) none)) e
+    none_passes_by (x.inc == j) d j x r (row_of xs j) refl (or_false_first (d x.inc) (list_any (λ y. d y.inc) xs) none)
+    (none_passes d xs j r (or_false_second (d x.inc) (list_any (λ y. d y.inc) xs) none)) e
 
 pub doom_inc : (t : Bool) (r : Row) → (cond t (set_doomed r) r).inc ≡ r.inc
 doom_inc true r = refl
@@ -304,10 +291,10 @@ pub bare_rows_stay : BareRowsStay
 unfolding after
 bare_rows_stay w e up stays =
     let doomed : Bool = list_any (λ r. not (has_doomed w.rows r.inc) && has_doomed (moved w e.caller e.event e.reply).rows r.inc) (moved w e.caller e.event e.reply).rows in
-    let first : (resolves e.event e.reply || comes_or_goes e.reply) ≡ false = or_first (resolves e.event e.reply || comes_or_goes e.reply) doomed stays in
-    bare_moved w e.caller e.event e.reply up (or_first (resolves e.event e.reply) (comes_or_goes e.reply) first)
-    (or_second (resolves e.event e.reply) (comes_or_goes e.reply) first)
-    (or_second (resolves e.event e.reply || comes_or_goes e.reply) doomed stays)
+    let first : (resolves e.event e.reply || comes_or_goes e.reply) ≡ false = or_false_first (resolves e.event e.reply || comes_or_goes e.reply) doomed stays in
+    bare_moved w e.caller e.event e.reply up (or_false_first (resolves e.event e.reply) (comes_or_goes e.reply) first)
+    (or_false_second (resolves e.event e.reply) (comes_or_goes e.reply) first)
+    (or_false_second (resolves e.event e.reply || comes_or_goes e.reply) doomed stays)
 
 -- so each walk stays as it is
 pub walks_stay : WalksStay

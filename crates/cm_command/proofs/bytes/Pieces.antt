@@ -1,5 +1,5 @@
 -- Pieces of bytes, and lines.
-use Rattle.std.proofs.Common.{◌≡◌, ℕ, suc, ◌+◌, ◌<◌, List, [], ◌∷◌, ◌++◌, ◌*◌, ◌-◌, length, take, drop, get_or, true, false, ◌==◌, Some, All, refl, sym, ap, subst, ◌∙◌, arith, eqb-true, add-one, min}
+use Rattle.std.proofs.Common.{◌≡◌, ℕ, suc, ◌+◌, ◌<◌, List, [], ◌∷◌, ◌++◌, ◌*◌, ◌-◌, length, take, drop, get_or, false, ◌==◌, Some, All, refl, sym, ap, subst, ◌∙◌, arith, eqb-true, add-one, min}
 use Rattle.std.specs.Prelude.{position}
 use Rattle.std.proofs.Math.Seq.{drop-cons, drop-length}
 use Rattle.std.proofs.lemmas.List.{take-append-drop, get_or-take, length-take-le, take_more, take_rest}
@@ -10,9 +10,6 @@ use Rattle.cm_command.specs.Scripts.{lines_of, in_prefix}
 -- no byte of the list is k
 abbrev pub Lacks : ℕ → List ℕ → Type 0
 Lacks k xs = All (λ b. (b == k) ≡ false) xs
-
-pub same : (k : ℕ) → (k == k) ≡ true
-same k = grind arith
 
 pub piece_clean : (k : ℕ) (xs : List ℕ) (i : ℕ) → position (λ b. b == k) xs ≡ Some i → Lacks k (take i xs)
 piece_clean k xs i e j d lt =

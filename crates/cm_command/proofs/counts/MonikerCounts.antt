@@ -1,5 +1,5 @@
 -- Monikers and targets.
-use Rattle.std.proofs.Common.{◌≡◌, ◌⊎◌, inl, inr, ⊎_elim, ℕ, ◌+◌, ◌<◌, ◌≤◌, min, List, [], ◌∷◌, ◌++◌, length, take, codes, false, ◌==◌, Some, None, All, refl, sym, subst, ◌∙◌, arith, rules}
+use Rattle.std.proofs.Common.{◌≡◌, ◌⊎◌, inl, inr, ⊎_elim, ℕ, ◌+◌, ◌<◌, ◌≤◌, min, List, [], ◌∷◌, ◌++◌, length, take, codes, false, Some, None, All, refl, sym, subst, ◌∙◌, arith, rules}
 use Rattle.std.specs.Str.{IsUtf8}
 use Rattle.std.proofs.lemmas.Option.{none-some}
 use Rattle.std.proofs.lemmas.List.{take_all, length-take-le}
@@ -12,6 +12,7 @@ use Rattle.cm_names.specs.MonikerInside.{IsMonikerText}
 use Rattle.cm_names.specs.MonikerStates.{next, may_end}
 use Rattle.cm_names.proofs.prefixes.Prefixes.{Accepts, onward}
 use Rattle.cm_names.proofs.prefixes.MonikerGrammar.{moniker_accepted}
+use Rattle.cm_facts.proofs.Numbers.{eq_high}
 use Rattle.cm_world.specs.declared.event.Target.{Target}
 use Rattle.cm_world.specs.declared.event.Target.TheVariants.{Named, Inc}
 use Rattle.cm_command.specs.declared.tokens.WordFault.{WordFault}
@@ -32,17 +33,14 @@ high_begins b h = grind (arith, rules)
 high_continues : (b : ℕ) → 128 ≤ b → continues_name b ≡ false
 high_continues b h = grind (arith, rules)
 
-high_is : (b k : ℕ) → 128 ≤ b → k < 128 → (b == k) ≡ false
-high_is b k h lt = grind (arith, rules)
-
 high_stops : (p : MonikerState) (b : ℕ) → 128 ≤ b → next p b ≡ None
-high_stops Start b h = rw (high_is b 46 h (omega arith), high_is b 47 h (omega arith), high_begins b h) refl
+high_stops Start b h = rw (eq_high b 46 h (omega arith), eq_high b 47 h (omega arith), high_begins b h) refl
 high_stops Whole b h = refl
 high_stops Root b h = rw (high_begins b h) refl
 high_stops Part b h = rw (high_begins b h) refl
-high_stops (First n) b h = rw (high_is b 58 h (omega arith), high_is b 47 h (omega arith), high_continues b h) refl
+high_stops (First n) b h = rw (eq_high b 58 h (omega arith), eq_high b 47 h (omega arith), high_continues b h) refl
 high_stops Colon b h = rw (high_begins b h) refl
-high_stops (Second n) b h = rw (high_is b 47 h (omega arith), high_continues b h) refl
+high_stops (Second n) b h = rw (eq_high b 47 h (omega arith), high_continues b h) refl
 
 low_or_high : (b : ℕ) → (b < 128) ⊎ (128 ≤ b)
 low_or_high b = grind arith

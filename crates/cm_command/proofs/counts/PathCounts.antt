@@ -8,6 +8,7 @@ use Rattle.std.specs.Str.{IsUtf8}
 use Rattle.std.proofs.lemmas.List.Elements.{All-cons, All-nil, All-append}
 use Rattle.std.proofs.lemmas.List.Splits.{join_with_byte-slice_split}
 use Rattle.cm_names.specs.Path.{is_path, is_subdir, is_relative, is_part, is_part_byte, is_slash, is_dots}
+use Rattle.cm_facts.proofs.Rights.{part_byte_low}
 use Rattle.cm_command.specs.declared.tokens.PathState.{PathState}
 use Rattle.cm_command.specs.declared.tokens.PathState.TheVariants.{Slash, Dot, Dots, Inside}
 use Rattle.cm_command.specs.PathPlaces.{path_prefix}
@@ -104,14 +105,11 @@ subdir_counts w n h =
 
 -- ---- bytes of paths
 
-low_byte : (b : ℕ) → is_part_byte b ≡ true → b < 128
-low_byte b h = grind (arith, rules)
-
 part_low : (p : List ℕ) → list_all is_part_byte p ≡ true → All (λ b. b < 128) p
 part_low [] h = All-nil (λ b. b < 128)
 part_low (b ∷ bs) h =
     let both = and_parts (is_part_byte b) (list_all is_part_byte bs) h in
-    All-cons (λ c. c < 128) b bs (low_byte b both.0) (part_low bs both.1)
+    All-cons (λ c. c < 128) b bs (part_byte_low b both.0) (part_low bs both.1)
 
 part_bytes : (p : List ℕ) → is_part p ≡ true → list_all is_part_byte p ≡ true
 part_bytes p h = (and_parts (not (length p == 0) && not (is_dots p)) (list_all is_part_byte p) h).1

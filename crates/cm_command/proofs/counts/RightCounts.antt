@@ -13,6 +13,7 @@ use Rattle.cm_names.specs.declared.rights.RightsFault.TheVariants.{RepeatedRight
 use Rattle.cm_names.specs.Rights.{RightSet, only, union, reading, writing, executing, no_rights, index_of, rights_of_word, with_rights, with_word, rights_behind, rights_of}
 use Rattle.cm_names.specs.RightsInside.{rights_if_faultless}
 use Rattle.cm_names.proofs.sets.RightsLemmas.{rights_of_words}
+use Rattle.cm_facts.proofs.Numbers.{add_between}
 use Rattle.cm_command.specs.declared.tokens.WordFault.{WordFault}
 use Rattle.cm_command.specs.declared.tokens.WordFault.TheVariants.{Bad, Memory}
 use Rattle.cm_command.specs.Counts.{CountsPrefixes, IsWordFault, fault_behind}
@@ -228,9 +229,6 @@ says_next used p more lacks h =
     let led = more_says 44 steps ends used p more lacks h in
     subst (λ a. SaysText 44 steps ends a more) led.1.1 led.2
 
-placed : (a b n : ℕ) → a + (b + 1 + n) ≡ a + b + 1 + n
-placed a b n = omega arith
-
 -- an unused word, and a comma
 pub further : (w : List ℕ) (used : List (List ℕ)) (place : ℕ) (rest p more : List ℕ) → IsOnward w used place rest → Lacks 44 p → IsUnused used p → rest ≡ p ++ 44 ∷ more → IsOnward w (used ++ p ∷ []) (place + length p + 1) more
 further w used place rest p more on lacks unused e =
@@ -240,7 +238,7 @@ further w used place rest p more on lacks unused e =
       fits = omega (arith, on.fits, ap length e, length-append p (44 ∷ more));
       leads = λ v h. on.leads v (subst (λ ps. PiecesLead steps ends used ps v) (sym (ap (pieces 44) e ∙ slice_split_at (λ b. b == 44) p 44 more lacks refl)) (used ++ p ∷ [], st, h));
       never = λ not h. on.never (λ says. not (says_next used p more lacks (subst (SaysText 44 steps ends used) e says))) h;
-      counts = λ n h. subst (CountsPrefixes IsSomeRights w) (placed place (length p) n) (on.counts (length p + 1 + n) (subst (λ t. CountsPrefixes (SaysText 44 steps ends used) t (length p + 1 + n)) (sym e) (counts_more 44 steps ends words used (used ++ p ∷ []) p more n st h)));
+      counts = λ n h. subst (CountsPrefixes IsSomeRights w) (add_between place (length p) n) (on.counts (length p + 1 + n) (subst (λ t. CountsPrefixes (SaysText 44 steps ends used) t (length p + 1 + n)) (sym e) (counts_more 44 steps ends words used (used ++ p ∷ []) p more n st h)));
     }
 
 wants_piece : (used : List (List ℕ)) (rest p : List ℕ) → Lacks 44 p → BeginsWithPiece 44 p rest → SaysText 44 steps ends used rest → IsUnused used p

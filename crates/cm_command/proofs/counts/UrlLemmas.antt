@@ -1,5 +1,5 @@
 -- URLs, byte by byte.
-use Rattle.std.proofs.Common.{◌≡◌, ◌⊎◌, inl, inr, ⊎_elim, ℕ, zero, suc, ◌+◌, ◌<◌, ◌≤◌, List, [], length, take, drop, min, true, sym, ap, subst, ◌∙◌, arith, rules, append-nil, length-append}
+use Rattle.std.proofs.Common.{◌≡◌, ◌⊎◌, inl, inr, ⊎_elim, ℕ, zero, suc, ◌+◌, ◌<◌, ◌≤◌, List, [], length, take, drop, min, sym, ap, subst, ◌∙◌, arith, rules, append-nil, length-append}
 use Rattle.std.specs.List.{prefix_len, take_while}
 use Rattle.std.specs.Str.{IsUtf8}
 use Rattle.std.proofs.lemmas.List.{length-take-le, take-append-drop}
@@ -7,13 +7,11 @@ use Rattle.std.proofs.lemmas.List.Folds.{length-prefix_len}
 use Rattle.std.proofs.lemmas.List.Sums.{prefix_len-le-length, prefix_len_passes}
 use Rattle.cm_names.specs.Prefixes.{HasCompletion}
 use Rattle.cm_names.specs.Urls.{is_url_byte}
+use Rattle.cm_facts.proofs.Rights.{url_byte_low}
 use Rattle.cm_command.specs.Words.{IsUrlText}
 use Rattle.cm_command.specs.Counts.{CountsPrefixes}
 use Rattle.cm_command.proofs.counts.CountLemmas.{take_none, url_begins}
 use Rattle.cm_command.proofs.bytes.Runs.{ascii_text, run_passes, run_stops, least}
-
-url_byte_low : (b : ℕ) → is_url_byte b ≡ true → b < 128
-url_byte_low b h = grind (arith, rules)
 
 pub url_utf8 : (t : List ℕ) → IsUrlText t → IsUtf8 t
 url_utf8 t h = ascii_text t (λ k d lt. url_byte_low _ (h.bytes k d lt))

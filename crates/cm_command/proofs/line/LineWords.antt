@@ -2,6 +2,7 @@
 use Rattle.std.proofs.Common.{◌≡◌, ◌≢◌, inl, inr, ℕ, ◌+◌, ◌-◌, ◌<◌, ◌≤◌, ◌^◌, [], ◌∷◌, ◌++◌, length, ◌==◌, Result, Ok, Err, MatchResult, codes, refl, sym, ap, subst, ◌∙◌, arith, length-append, zero-add}
 use Rattle.std.proofs.lemmas.List.Splits.{slice_split_none, slice_split_at}
 use Rattle.cm_names.specs.Prefixes.{HasCompletion, IsLongestPrefix}
+use Rattle.cm_facts.proofs.Numbers.{eq_self as same, add_between}
 use Rattle.cm_world.specs.declared.frame.Builtin.{Builtin}
 use Rattle.cm_command.specs.declared.command.Command.{Command}
 use Rattle.cm_command.specs.declared.command.Command.TheVariants as command
@@ -17,7 +18,7 @@ use Rattle.cm_command.specs.Words.{words_of}
 use Rattle.cm_command.specs.Grammar.{LineBytes, CommandText, CommandWords, IsCommandFault, BuiltinText, BuiltinWords, IsBuiltinFault}
 use Rattle.cm_command.specs.Pieces.{PiecesLead, SaysText, Wants}
 use Rattle.cm_command.specs.Places.{WordLeads, EndsLine, IsUnended, IsShort, line_fault}
-use Rattle.cm_command.proofs.bytes.Pieces.{Lacks, same}
+use Rattle.cm_command.proofs.bytes.Pieces.{Lacks}
 use Rattle.cm_command.proofs.counts.CountLemmas.{some_prefix, longest}
 use Rattle.cm_command.proofs.counts.KindLemmas.{counts_same}
 use Rattle.cm_command.proofs.line.Machine.{BeginsWithPiece, word_says, more_says, counts_piece, counts_more, counts_end}
@@ -46,15 +47,12 @@ at_start from line = record {
 same_place : (p next a : LineState) (word : LineBytes) → WordLeads p word next → WordLeads p word a → a ≡ next
 same_place p next a word st other = line_machine.one_way p word a next other st
 
-regroup : (prefix len n : ℕ) → prefix + (len + 1 + n) ≡ prefix + len + 1 + n
-regroup prefix len n = omega arith
-
 pub further : {from p : LineState} {line rest : LineBytes} {prefix : ℕ} (h : IsUnderWay from line p rest prefix) (word more : LineBytes) (next : LineState) → Lacks 32 word → rest ≡ word ++ 32 ∷ more → WordLeads p word next → IsUnderWay from line next more (prefix + length word + 1)
 further {from} {p} {line} {rest} {prefix} h word more next clean e st = record {
   whole = omega (arith, h.whole, ap length e, length-append word (32 ∷ more));
   says = λ s led. h.says s (subst (λ t. PiecesLead WordLeads EndsLine p (words_of t) s) (sym e) (subst (λ ws. PiecesLead WordLeads EndsLine p ws s) (sym (slice_split_at (λ b. b == 32) word 32 more clean (same 32))) (next, st, led)));
   said = λ all. let on = more_says 32 WordLeads EndsLine p word more clean (subst (Line p) e (h.said all)) in subst (λ q. Line q more) (same_place p next on.0 word st on.1) on.2;
-  counts = λ n c. subst (CountsPrefixes (Line from) line) (regroup prefix (length word) n) (h.counts (length word + 1 + n) (subst (λ t. CountsPrefixes (Line p) t (length word + 1 + n)) (sym e) (counts_more 32 WordLeads EndsLine line_machine p next word more n st c)));
+  counts = λ n c. subst (CountsPrefixes (Line from) line) (add_between prefix (length word) n) (h.counts (length word + 1 + n) (subst (λ t. CountsPrefixes (Line p) t (length word + 1 + n)) (sym e) (counts_more 32 WordLeads EndsLine line_machine p next word more n st c)));
 }
 
 -- the next word begins inside of the line

@@ -5,9 +5,10 @@ use Rattle.std.proofs.Math.Seq.{take-append-add, take-append_seam, take-length}
 use Rattle.std.proofs.lemmas.List.{take-append-le, length-take, get_or-take}
 use Rattle.std.proofs.lemmas.List.Elements.{All-cons, All-nil, All-append}
 use Rattle.cm_names.specs.Prefixes.{HasCompletion}
+use Rattle.cm_facts.proofs.Numbers.{eq_self}
 use Rattle.cm_command.specs.Counts.{CountsPrefixes}
 pub use Rattle.cm_command.specs.Pieces.{pieces, PiecesLead, Wants, SaysText}
-use Rattle.cm_command.proofs.bytes.Pieces.{Lacks, same}
+use Rattle.cm_command.proofs.bytes.Pieces.{Lacks}
 
 -- the text may end there, or goes on behind a separator
 abbrev pub GoesOn : {S V : Type 0} → ℕ → (S → List ℕ → S → Type 0) → (S → V → Type 0) → S → Type 0
@@ -24,7 +25,7 @@ says_word k steps ends s a w v clean st e =
 
 pub says_more : {S V : Type 0} (k : ℕ) (steps : S → List ℕ → S → Type 0) (ends : S → V → Type 0) (s a : S) (w r : List ℕ) → Lacks k w → steps s w a → SaysText k steps ends a r → SaysText k steps ends s (w ++ k ∷ r)
 says_more k steps ends s a w r clean st h =
-    (h.0, subst (λ ws. PiecesLead steps ends s ws h.0) (sym (slice_split_at (λ b. b == k) w k r clean (same k))) (a, st, h.1))
+    (h.0, subst (λ ws. PiecesLead steps ends s ws h.0) (sym (slice_split_at (λ b. b == k) w k r clean (eq_self k))) (a, st, h.1))
 
 pub word_says : {S V : Type 0} (k : ℕ) (steps : S → List ℕ → S → Type 0) (ends : S → V → Type 0) (s : S) (w : List ℕ) → Lacks k w → SaysText k steps ends s w → (a : S) × steps s w a × ((v : V) × ends a v)
 word_says k steps ends s w clean h =
@@ -33,7 +34,7 @@ word_says k steps ends s w clean h =
 
 pub more_says : {S V : Type 0} (k : ℕ) (steps : S → List ℕ → S → Type 0) (ends : S → V → Type 0) (s : S) (w r : List ℕ) → Lacks k w → SaysText k steps ends s (w ++ k ∷ r) → (a : S) × steps s w a × SaysText k steps ends a r
 more_says k steps ends s w r clean h =
-    let led = subst (λ ws. PiecesLead steps ends s ws h.0) (slice_split_at (λ b. b == k) w k r clean (same k)) h.1 in
+    let led = subst (λ ws. PiecesLead steps ends s ws h.0) (slice_split_at (λ b. b == k) w k r clean (eq_self k)) h.1 in
     (led.0, led.1, (h.0, led.2))
 
 -- the first piece of a text

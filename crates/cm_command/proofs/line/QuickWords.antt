@@ -1,6 +1,7 @@
 -- Lines of a verb, a target and perhaps one word more.
 use Rattle.std.proofs.Common.{◌≡◌, [], ◌∷◌, ◌++◌, ◌==◌, Option, Some, None, Result, Ok, Err, IfSome, IfOk, refl, sym, ap, subst, ◌∙◌}
 use Rattle.std.proofs.lemmas.List.Splits.{slice_split_none, slice_split_at}
+use Rattle.cm_facts.proofs.Numbers.{eq_self}
 use Rattle.cm_command.specs.declared.command.Command.{Command}
 use Rattle.cm_command.specs.declared.place.LineState.{LineState}
 use Rattle.cm_command.specs.declared.place.LineState.TheVariants as place
@@ -10,14 +11,14 @@ use Rattle.cm_command.specs.Words.{words_of}
 use Rattle.cm_command.specs.Grammar.{LineBytes, CommandText}
 use Rattle.cm_command.specs.Pieces.{PiecesLead}
 use Rattle.cm_command.specs.Places.{WordLeads, EndsLine, LeadsTo, verb_word}
-use Rattle.cm_command.proofs.bytes.Pieces.{Lacks, same}
+use Rattle.cm_command.proofs.bytes.Pieces.{Lacks}
 use Rattle.cm_command.proofs.line.LineWords.{commands, read}
 
 alone : (rest word : LineBytes) → Lacks 32 word → rest ≡ word → words_of rest ≡ word ∷ []
 alone rest word clean e = ap words_of e ∙ slice_split_none (λ b. b == 32) word clean
 
 further : (rest word more : LineBytes) → Lacks 32 word → rest ≡ word ++ 32 ∷ more → words_of rest ≡ word ∷ words_of more
-further rest word more clean e = ap words_of e ∙ slice_split_at (λ b. b == 32) word 32 more clean (same 32)
+further rest word more clean e = ap words_of e ∙ slice_split_at (λ b. b == 32) word 32 more clean (eq_self 32)
 
 -- the word is the last one
 pub by_last : (p q : LineState) (rest word : LineBytes) (o : Option Command) → Lacks 32 word → rest ≡ word → WordLeads p word q → IfSome o (λ c. EndsLine q (sentence.Command c)) → IfSome o (LeadsTo p rest)

@@ -1,5 +1,5 @@
 -- No word of a line has a space.
-use Rattle.std.proofs.Common.{◌≡◌, ℕ, List, [], ◌∷◌, ◌++◌, true, false, ◌==◌, Ok, codes, refl, sym, subst, rules, arith}
+use Rattle.std.proofs.Common.{◌≡◌, ℕ, List, [], ◌∷◌, ◌++◌, false, ◌==◌, Ok, codes, refl, sym, subst, rules, arith}
 use Rattle.std.specs.List.{slice_split}
 use Rattle.std.proofs.lemmas.List.Elements.{All-cons, All-append}
 use Rattle.std.proofs.lemmas.List.Splits.{join_with_byte-slice_split}
@@ -14,7 +14,7 @@ use Rattle.cm_world.specs.declared.event.Target.{Target}
 use Rattle.cm_world.specs.declared.event.Target.TheVariants as target
 use Rattle.cm_command.specs.declared.place.Verb.{Verb}
 use Rattle.cm_command.specs.declared.place.Verb.TheVariants as verb
-use Rattle.cm_names.specs.Urls.{is_url_byte}
+use Rattle.cm_facts.proofs.Rights.{url_byte_no_space}
 use Rattle.cm_command.specs.Words.{IsUrlText, IsTargetText, IsOriginText, IsRightsText}
 use Rattle.cm_command.specs.WordsInside.{right_words}
 use Rattle.cm_command.specs.Grammar.{LineBytes}
@@ -66,11 +66,8 @@ origin_lacks w origin.Void h = lacks_same w (codes "void") h (lacks_by 32 (codes
 origin_lacks w (origin.Child c) h =
     lacks_same w (35 ∷ child_text c) h.1 (All-cons (λ b. (b == 32) ≡ false) 35 (child_text c) refl (child_lacks c h.0))
 
-url_byte : (b : ℕ) → is_url_byte b ≡ true → (b == 32) ≡ false
-url_byte b h = grind (arith, rules)
-
 pub url_lacks : (t : List ℕ) → IsUrlText t → Lacks 32 t
-url_lacks t h k d lt = url_byte _ (h.bytes k d lt)
+url_lacks t h k d lt = url_byte_no_space _ (h.bytes k d lt)
 
 -- ---- words for rights
 

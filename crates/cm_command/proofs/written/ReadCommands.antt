@@ -1,5 +1,5 @@
 -- What a line asks for is a command in the grammar, and so can be written.
-use Rattle.std.proofs.Common.{◌≡◌, ◌≢◌, ◌⊎◌, inl, inr, ℕ, ◌≤◌, List, [], ◌∷◌, ◌++◌, length, codes, Bool, true, false, true≢false, ◌||◌, ◌==◌, if◌then◌else◌, Option, Some, None, option_map, Result, Ok, Err, All, IsTrue, refl, sym, ap, subst, ◌∙◌, arith}
+use Rattle.std.proofs.Common.{◌≡◌, ◌≢◌, ◌⊎◌, inl, inr, ℕ, ◌≤◌, List, [], ◌∷◌, ◌++◌, length, codes, Bool, true, false, true≢false, ◌==◌, if◌then◌else◌, Option, Some, None, option_map, Result, Ok, Err, All, IsTrue, refl, sym, ap, subst, ◌∙◌, arith}
 use Rattle.std.specs.Str.{bytes_eq}
 use Rattle.std.specs.List.{slice_split, list_any}
 use Rattle.std.proofs.lemmas.Option.{none-some}
@@ -7,12 +7,13 @@ use Rattle.std.proofs.lemmas.List.Elements.{All-cons, All-nil}
 use Rattle.cm_names.specs.declared.child.ChildName.{ChildName}
 use Rattle.cm_names.specs.declared.moniker.Moniker.{Moniker}
 use Rattle.cm_names.specs.declared.rights.Right.{Right}
-use Rattle.cm_names.specs.declared.rights.Right.TheVariants.{Connect, Enumerate, Execute, GetAttributes, ModifyDirectory, ReadBytes, Traverse, UpdateAttributes, WriteBytes}
+use Rattle.cm_names.specs.declared.rights.Right.TheVariants.{Connect}
 use Rattle.cm_names.specs.declared.rights.RightsFault.{RightsFault}
 use Rattle.cm_names.specs.Name.{IsName}
 use Rattle.cm_names.specs.Path.{is_subdir}
 use Rattle.cm_names.specs.Moniker.{moniker_text, text_of_parts, text_from_root}
 use Rattle.cm_names.specs.Rights.{RightSet, has, only, union, reading, writing, executing, no_rights, right_named, rights_of_word, with_rights, with_word, rights_behind, rights_of}
+use Rattle.cm_facts.proofs.Rights.{has_only, has_none, has_union}
 use Rattle.cm_decl.specs.declared.kind.Kind.{Kind}
 use Rattle.cm_decl.specs.declared.kind.Kind.TheVariants as kind
 use Rattle.cm_decl.specs.declared.origin.Origin.{Origin}
@@ -32,46 +33,13 @@ use Rattle.cm_command.specs.WrittenInside.{IsWritable, WhatIsReadIsWritable}
 abbrev HasSome : RightSet → Type 0
 HasSome r = (x : Right) × (has r x ≡ true)
 
-only_has : (x : Right) → has (only x) x ≡ true
-only_has Connect = refl
-only_has Enumerate = refl
-only_has Execute = refl
-only_has GetAttributes = refl
-only_has ModifyDirectory = refl
-only_has ReadBytes = refl
-only_has Traverse = refl
-only_has UpdateAttributes = refl
-only_has WriteBytes = refl
-
-none_has : (x : Right) → has no_rights x ≡ false
-none_has Connect = refl
-none_has Enumerate = refl
-none_has Execute = refl
-none_has GetAttributes = refl
-none_has ModifyDirectory = refl
-none_has ReadBytes = refl
-none_has Traverse = refl
-none_has UpdateAttributes = refl
-none_has WriteBytes = refl
-
-union_keeps : (x : Right) (r s : RightSet) → has r x ≡ true → has (union r s) x ≡ true
-union_keeps Connect r s h = ap (λ b. b || s.connect) h
-union_keeps Enumerate r s h = ap (λ b. b || s.enumerate) h
-union_keeps Execute r s h = ap (λ b. b || s.execute) h
-union_keeps GetAttributes r s h = ap (λ b. b || s.get_attributes) h
-union_keeps ModifyDirectory r s h = ap (λ b. b || s.modify_directory) h
-union_keeps ReadBytes r s h = ap (λ b. b || s.read_bytes) h
-union_keeps Traverse r s h = ap (λ b. b || s.traverse) h
-union_keeps UpdateAttributes r s h = ap (λ b. b || s.update_attributes) h
-union_keeps WriteBytes r s h = ap (λ b. b || s.write_bytes) h
-
 one_of : (b : Bool) (r s : RightSet) (o : Option RightSet) → HasSome r → (o ≡ Some s → HasSome s) → (if b then Some r else o) ≡ Some s → HasSome s
 one_of true r s o h f e = let same : r ≡ s = cc e in subst HasSome same h
 one_of false r s o h f e = f e
 
 named : (o : Option Right) (s : RightSet) → option_map only o ≡ Some s → HasSome s
 named None s e = absurd (none-some s e)
-named (Some x) s e = let same : only x ≡ s = cc e in subst HasSome same (x, only_has x)
+named (Some x) s e = let same : only x ≡ s = cc e in subst HasSome same (x, has_only x)
 
 -- a word of the table stands for some right
 word_some : (w : List ℕ) (s : RightSet) → rights_of_word w ≡ Some s → HasSome s
@@ -82,7 +50,7 @@ word_some w s e =
 joined_some : (b : Bool) (n : RightsFault) (s : RightSet) (others : Result RightSet RightsFault) (r : RightSet) → HasSome s → (if b then Err n else with_rights s others) ≡ Ok r → HasSome r
 joined_some true n s others r h e = absurd (cc e)
 joined_some false n s (Ok q) r h e =
-    let same : union s q ≡ r = cc e in subst HasSome same (h.0, union_keeps h.0 s q h.1)
+    let same : union s q ≡ r = cc e in subst HasSome same (h.0, has_union h.0 s q h.1)
 joined_some false n s (Err f) r h e = absurd (cc e)
 
 behind_some : (o : Option RightSet) (earlier : List (List ℕ)) (w : List ℕ) (others : Result RightSet RightsFault) (r : RightSet) → ((s : RightSet) → o ≡ Some s → HasSome s) → with_word earlier w o others ≡ Ok r → HasSome r
@@ -98,7 +66,7 @@ words_some (w ∷ ws) r e = behind_some (rights_of_word w) [] w (rights_behind (
 pub rights_are : (t : LineBytes) (r : RightSet) → IsRightsText t r → r ≢ no_rights
 rights_are t r h =
     let some = words_some (slice_split (λ b. b == 44) t) r h in
-    λ e. true≢false (sym some.1 ∙ ap (λ s. has s some.0) e ∙ none_has some.0)
+    λ e. true≢false (sym some.1 ∙ ap (λ s. has s some.0) e ∙ has_none some.0)
 
 -- ---- targets and origins
 

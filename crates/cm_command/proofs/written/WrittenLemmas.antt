@@ -22,8 +22,9 @@ use Rattle.cm_names.specs.declared.rights.Right.{Right}
 use Rattle.cm_names.specs.declared.rights.Right.TheVariants.{Connect, Enumerate, Execute, GetAttributes, ModifyDirectory, ReadBytes, Traverse, UpdateAttributes, WriteBytes}
 use Rattle.cm_names.specs.Rights.{RightSet, text_of, words_of, word_of, has, all_rights, no_rights, rights_of}
 use Rattle.cm_names.proofs.sets.WordLemmas.{words_are_read_back_lem}
+use Rattle.cm_facts.proofs.Numbers.{eq_self}
 use Rattle.cm_command.specs.Words.{IsRightsText}
-use Rattle.cm_command.proofs.bytes.Pieces.{Lacks, same}
+use Rattle.cm_command.proofs.bytes.Pieces.{Lacks}
 
 -- ---- words without a separator
 
@@ -35,7 +36,7 @@ AllLack k (w ∷ ws) = Lacks k w × AllLack k ws
 pub split_join : (k : ℕ) (w : List ℕ) (ws : List (List ℕ)) → Lacks k w → AllLack k ws → slice_split (λ b. b == k) (join_with_byte k (w ∷ ws)) ≡ w ∷ ws
 split_join k w [] h t = slice_split_none (λ b. b == k) w h
 split_join k w (v ∷ vs) h t =
-    slice_split_at (λ b. b == k) w k (join_with_byte k (v ∷ vs)) h (same k) ∙ ap (λ x. w ∷ x) (split_join k v vs t.0 t.1)
+    slice_split_at (λ b. b == k) w k (join_with_byte k (v ∷ vs)) h (eq_self k) ∙ ap (λ x. w ∷ x) (split_join k v vs t.0 t.1)
 
 pub all_lack-append : (k : ℕ) (xs ys : List (List ℕ)) → AllLack k xs → AllLack k ys → AllLack k (xs ++ ys)
 all_lack-append k [] ys h t = t

@@ -1,6 +1,7 @@
 use Rattle.std.proofs.Common.{◌≡◌, ℕ, List, [], ◌∷◌, Bool, false, ◌&&◌, ◌||◌, true≢false, Option, Some, None, refl, sym, ◌∙◌, ap, subst, IsTrue, inl, inr, ◌⊎◌, bytes_eq}
 use Rattle.std.specs.Option.{option_eq}
 use Rattle.std.specs.Cmp.Lexicographic.{bytes_decides}
+use Rattle.std.proofs.lemmas.Bool.{or_cases}
 use Rattle.cm_names.specs.declared.dependency.Dependency.{Dependency}
 use Rattle.cm_names.specs.declared.dependency.Dependency.TheVariants.{Strong, Weak}
 use Rattle.cm_decl.specs.declared.node.Node.{Node}
@@ -13,7 +14,7 @@ use Rattle.cm_decl.specs.Reach.{NoCycle}
 use Rattle.cm_decl.specs.Examples.{two_ways, child_node, a, b}
 use Rattle.cm_decl.proofs.orders.Orders.{edge_nodes}
 use Rattle.cm_decl.proofs.cycles.Reaching.{acyclic_by_ends}
-use Rattle.cm_decl.proofs.Sameness.{or_split, never}
+use Rattle.cm_decl.proofs.Sameness.{never}
 
 static_same : (text : List ℕ) (coll : Option (List ℕ)) (name : List ℕ) → IsTrue (option_eq bytes_eq None coll && bytes_eq text name) → record { coll = coll; name = name } ≡ static_name text
 static_same text (Some k) name h = absurd (true≢false (sym h))
@@ -34,9 +35,9 @@ at_b = child_node b
 three : (k : Dependency) (x : Node) → IsTrue (is_node (two_ways k) [] x) → (x ≡ Own) ⊎ ((x ≡ at_a) ⊎ (x ≡ at_b))
 three k Own h = inl refl
 three k (Child n) h =
-    elim (or_split (same_node at_a (Child n)) (same_node at_b (Child n) || false) h) as (λ _. (Child n ≡ Own) ⊎ ((Child n ≡ at_a) ⊎ (Child n ≡ at_b))) [
+    elim (or_cases (same_node at_a (Child n)) (same_node at_b (Child n) || false) h) as (λ _. (Child n ≡ Own) ⊎ ((Child n ≡ at_a) ⊎ (Child n ≡ at_b))) [
       | inl here ↦ inr (inl (static_node_same a (Child n) here))
-      | inr there ↦ elim (or_split (same_node at_b (Child n)) false there) as (λ _. (Child n ≡ Own) ⊎ ((Child n ≡ at_a) ⊎ (Child n ≡ at_b))) [
+      | inr there ↦ elim (or_cases (same_node at_b (Child n)) false there) as (λ _. (Child n ≡ Own) ⊎ ((Child n ≡ at_a) ⊎ (Child n ≡ at_b))) [
         | inl here ↦ inr (inr (static_node_same b (Child n) here))
         | inr never ↦ absurd (true≢false (sym never))
       ]
@@ -101,7 +102,7 @@ ring z = is_strong_edge (two_ways Strong) [] z at_a || is_strong_edge (two_ways 
 
 ring_supported : IsSupported (is_strong_edge (two_ways Strong) []) ring
 ring_supported x h =
-    elim (or_split (is_strong_edge (two_ways Strong) [] x at_a) (is_strong_edge (two_ways Strong) [] x at_b) h) as (λ _. (y : Node) × IsTrue (ring y) × IsTrue (is_strong_edge (two_ways Strong) [] x y)) [
+    elim (or_cases (is_strong_edge (two_ways Strong) [] x at_a) (is_strong_edge (two_ways Strong) [] x at_b) h) as (λ _. (y : Node) × IsTrue (ring y) × IsTrue (is_strong_edge (two_ways Strong) [] x y)) [
       | inl e ↦ (at_a, refl, e)
       | inr e ↦ (at_b, refl, e)
     ]

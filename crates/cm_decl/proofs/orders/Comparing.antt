@@ -1,9 +1,9 @@
 use Rattle.std.proofs.Common.{◌≡◌, ℕ, List, [], ◌∷◌, ◌++◌, length, true≢false, Option, Some, None, refl, sym, ◌∙◌, ap, IsTrue, arith, nat_cmp, Ordering, Less, Equal, Greater, is_eq, is_lt}
 use Rattle.std.specs.Ordering.{ordering_reverse, ordering_then, is_le}
 use Rattle.std.specs.Cmp.{unsigned_ties, unsigned_Decides}
-use Rattle.std.specs.Cmp.Lexicographic.{slice_cmp}
 use Rattle.cm_names.specs.declared.child.ChildName.{ChildName}
 use Rattle.cm_names.specs.Child.{child_text}
+use Rattle.cm_facts.proofs.Orders.{slice_cmp_equal}
 use Rattle.cm_decl.specs.declared.node.Node.{Node}
 use Rattle.cm_decl.specs.declared.node.Node.TheVariants.{Own, Child}
 use Rattle.cm_decl.specs.NodeOrder.{coll_length, text_cmp, node_cmp, node_at_most}
@@ -16,14 +16,6 @@ both_equal Greater s e = absurd (true≢false (sym (ap is_eq e)))
 
 same_numbers : (m n : ℕ) → nat_cmp m n ≡ Equal → m ≡ n
 same_numbers m n e = (unsigned_Decides m n).0 (unsigned_ties m n ∙ ap is_eq e)
-
-same_texts : (xs ys : List ℕ) → slice_cmp nat_cmp xs ys ≡ Equal → xs ≡ ys
-same_texts [] [] e = refl
-same_texts [] (y ∷ ys) e = absurd (true≢false (sym (ap is_eq e)))
-same_texts (x ∷ xs) [] e = absurd (true≢false (sym (ap is_eq e)))
-same_texts (x ∷ xs) (y ∷ ys) e =
-    let both : (nat_cmp x y ≡ Equal) × (slice_cmp nat_cmp xs ys ≡ Equal) = both_equal (nat_cmp x y) (slice_cmp nat_cmp xs ys) e in
-    ap (λ z. z ∷ xs) (same_numbers x y both.0) ∙ ap (λ l. y ∷ l) (same_texts xs ys both.1)
 
 head_or : ℕ → List ℕ → ℕ
 head_or d [] = d
@@ -67,7 +59,7 @@ node_cmp_exact Own (Child b) e = absurd (true≢false (sym (ap is_eq e)))
 node_cmp_exact (Child a) Own e = absurd (true≢false (sym (ap is_eq e)))
 node_cmp_exact (Child a) (Child b) e =
     let both : (text_cmp (Child a) (Child b) ≡ Equal) × (nat_cmp (coll_length a.coll) (coll_length b.coll) ≡ Equal) = both_equal (text_cmp (Child a) (Child b)) (nat_cmp (coll_length a.coll) (coll_length b.coll)) e in
-    ap Child (parts a.coll b.coll a.name b.name (same_texts (child_text a) (child_text b) both.0) (same_numbers (coll_length a.coll) (coll_length b.coll) both.1))
+    ap Child (parts a.coll b.coll a.name b.name (slice_cmp_equal (child_text a) (child_text b) both.0) (same_numbers (coll_length a.coll) (coll_length b.coll) both.1))
 
 tied : (r s : Ordering) → r ≡ ordering_reverse s → IsTrue (is_le r) → IsTrue (is_le s) → r ≡ Equal
 tied Less Less e h g = absurd (true≢false (ap is_lt e))

@@ -5,7 +5,7 @@ use Rattle.std.specs.Option.{option_map_or}
 use Rattle.std.proofs.lemmas.List.Folds.{list_any-append}
 use Rattle.std.proofs.lemmas.List.Quantifiers.{position-Some}
 use Rattle.std.proofs.lemmas.List.Sums.{fails_before_first}
-use Rattle.std.proofs.lemmas.Bool.{cases_lt}
+use Rattle.std.proofs.lemmas.Bool.{cases_lt, or_cases}
 use borrow.Author.Tests.{ltb-true, lt-ltb}
 use Rattle.std.proofs.lemmas.Bool.{and_from as and_pair}
 use Rattle.std.specs.Cmp.{first_so, second_so}
@@ -21,7 +21,7 @@ use Rattle.cm_decl.specs.RealmGraph.{Directly}
 use Rattle.cm_decl.specs.Graph.{is_node, is_from_node}
 use Rattle.cm_decl.specs.GraphInside.{realm, DependsOn, WouldDirectly, WouldDepend}
 use Rattle.cm_decl.proofs.orders.Orders.{direct_nodes}
-use Rattle.cm_decl.proofs.Sameness.{or_split, same_node-refl, same_node_exact}
+use Rattle.cm_decl.proofs.Sameness.{same_node-refl, same_node_exact}
 use Rattle.cm_deps.specs.Edges.{holds, row}
 use Rattle.cm_deps.specs.Nodes.{at, IsNodes, IsNodeNumber}
 use Rattle.cm_deps.specs.Sources.{is_source, strong_sources, offers_of}
@@ -63,7 +63,7 @@ depends_by_number d dynamic nodes reached x y from to is first second =
 -- an element that passes, and each other test that it passes finds one as well
 any_some : {A : Type 0} (p : A → Bool) (xs : List A) → IsTrue (list_any p xs) → (x : A) × ((q : A → Bool) → IsTrue (q x) → IsTrue (list_any q xs)) × IsTrue (p x)
 any_some p [] h = absurd (true≢false (sym h))
-any_some p (x ∷ xs) h = elim (or_split (p x) (list_any p xs) h) as (λ _. (y : _) × ((q : _ → Bool) → IsTrue (q y) → IsTrue (list_any q (x ∷ xs))) × IsTrue (p y)) [
+any_some p (x ∷ xs) h = elim (or_cases (p x) (list_any p xs) h) as (λ _. (y : _) × ((q : _ → Bool) → IsTrue (q y) → IsTrue (list_any q (x ∷ xs))) × IsTrue (p y)) [
   | inl here ↦ (x, (λ q passes. or_left (q x) (list_any q xs) passes), here)
   | inr there ↦ (let rest : (y : _) × ((q : _ → Bool) → IsTrue (q y) → IsTrue (list_any q xs)) × IsTrue (p y) = any_some p xs there in
       (rest.0, (λ q passes. or_right (q x) (list_any q xs) (rest.1 q passes)), rest.2))
@@ -79,7 +79,7 @@ abbrev pub Onward : Decl → List DynChild → Node → Node → Type 0
 Onward d dynamic first y = (first ≡ y) ⊎ DependsOn d dynamic first y
 
 pub leads_onward : (d : Decl) (dynamic : List DynChild) (nodes : List Node) (reached : List (List ℕ)) (y : Node) (from to : ℕ) → IsReachability d dynamic nodes reached → from < length nodes → IsNodeNumber nodes y to → IsTrue (leads_to reached to from) → Onward d dynamic (at nodes from) y
-leads_onward d dynamic nodes reached y from to is low there h = elim (or_split (nat_eq from to) (holds (row reached from) to) h) as (λ _. Onward d dynamic (at nodes from) y) [
+leads_onward d dynamic nodes reached y from to is low there h = elim (or_cases (nat_eq from to) (holds (row reached from) to) h) as (λ _. Onward d dynamic (at nodes from) y) [
   | inl same ↦ inl (ap (at nodes) (same_nat from to same) ∙ there.there)
   | inr held ↦ inr ((depends_by_number d dynamic nodes reached (at nodes from) y from to is (record { inside = low; there = refl }) there).0 held)
 ]
@@ -201,7 +201,7 @@ would_split d dynamic coll gives nodes reached numbers y to sorted is lists ther
         let has : IsTrue (is_node d dynamic x) = second_so (list_any (is_from_node x) (strong_sources (offers_of d.offers coll ++ gives))) (is_node d dynamic x) both in
         let place : (i : ℕ) × (i < length nodes) × (at nodes i ≡ x) = found_at x nodes (sorted.all x ∙ has) in
         let either : IsTrue (list_any (is_from_node x) (strong_sources (offers_of d.offers coll)) || list_any (is_from_node x) (strong_sources gives)) = sym (sources_of_both d coll gives x) ∙ first_so (list_any (is_from_node x) (strong_sources (offers_of d.offers coll ++ gives))) (is_node d dynamic x) both in
-        elim (or_split (list_any (is_from_node x) (strong_sources (offers_of d.offers coll))) (list_any (is_from_node x) (strong_sources gives)) either) as (λ _. IsTrue (leads_to reached to 0) ⊎ (IsTrue (list_any (leads_to reached to) numbers) ⊎ IsTrue (list_any (source_leads nodes reached to) (strong_sources gives)))) [
+        elim (or_cases (list_any (is_from_node x) (strong_sources (offers_of d.offers coll))) (list_any (is_from_node x) (strong_sources gives)) either) as (λ _. IsTrue (leads_to reached to 0) ⊎ (IsTrue (list_any (leads_to reached to) numbers) ⊎ IsTrue (list_any (source_leads nodes reached to) (strong_sources gives)))) [
           | inl h ↦ inr (inl (offered x place onward h))
           | inr h ↦ inr (inr (given x place onward h))
         ]

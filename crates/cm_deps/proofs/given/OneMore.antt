@@ -3,7 +3,7 @@ use Rattle.std.specs.Prelude.{map, unwrap_or, ◌↔◌}
 use Rattle.std.specs.List.{list_any}
 use Rattle.std.proofs.lemmas.List.{map-append}
 use Rattle.std.proofs.lemmas.List.Folds.{list_any-append}
-use Rattle.std.proofs.lemmas.Bool.{and_from as and_pair, or_parts}
+use Rattle.std.proofs.lemmas.Bool.{and_from as and_pair, or_parts, or_cases}
 use Rattle.std.specs.Cmp.{first_so, second_so}
 use Rattle.cm_names.specs.declared.child.ChildName.{ChildName}
 use Rattle.cm_decl.specs.declared.decl.Decl.{Decl}
@@ -16,7 +16,7 @@ use Rattle.cm_decl.specs.Reach.{Reaches, NoCycle}
 use Rattle.cm_decl.specs.Graph.{is_node, nodes, static_node, dynamic_node, is_from_node, sources_of, child_sources, gives_of, offers_to, StrongOn}
 use Rattle.cm_decl.specs.GraphInside.{realm, DependsOn, WouldDirectly, WouldDepend}
 use Rattle.cm_decl.proofs.orders.Orders.{edge_nodes}
-use Rattle.cm_decl.proofs.Sameness.{or_split, same_node-refl, same_node_exact}
+use Rattle.cm_decl.proofs.Sameness.{same_node-refl, same_node_exact}
 use Rattle.cm_deps.specs.Laws.{IsFurther}
 use Rattle.cm_deps.specs.Sources.{strong_sources, offers_of}
 use Rattle.cm_deps.proofs.listed.Listing.{or_left, or_right}
@@ -45,9 +45,9 @@ its_node : (d : Decl) (dynamic : List DynChild) (k : DynChild) → IsTrue (is_no
 its_node d dynamic k = more_nodes d dynamic k (Child k.name) ∙ or_right (is_node d dynamic (Child k.name)) (same_node (Child k.name) (Child k.name) || false) (or_left (same_node (Child k.name) (Child k.name)) false (same_node-refl (Child k.name)))
 
 new_node : (d : Decl) (dynamic : List DynChild) (k : DynChild) (x : Node) → (x ≡ Child k.name → ⊥) → IsTrue (is_node d (dynamic ++ k ∷ []) x) → IsTrue (is_node d dynamic x)
-new_node d dynamic k x apart has = elim (or_split (is_node d dynamic x) (same_node (Child k.name) x || false) (sym (more_nodes d dynamic k x) ∙ has)) as (λ _. IsTrue (is_node d dynamic x)) [
+new_node d dynamic k x apart has = elim (or_cases (is_node d dynamic x) (same_node (Child k.name) x || false) (sym (more_nodes d dynamic k x) ∙ has)) as (λ _. IsTrue (is_node d dynamic x)) [
   | inl old ↦ old
-  | inr new ↦ (elim (or_split (same_node (Child k.name) x) false new) as (λ _. IsTrue (is_node d dynamic x)) [
+  | inr new ↦ (elim (or_cases (same_node (Child k.name) x) false new) as (λ _. IsTrue (is_node d dynamic x)) [
     | inl same ↦ absurd (apart (sym (same_node_exact (Child k.name) x same)))
     | inr never ↦ absurd (true≢false (sym never))
   ])

@@ -1,6 +1,7 @@
 use Rattle.std.proofs.Common.{◌≡◌, ℕ, ◌<◌, List, [], ◌∷◌, ◌++◌, length, Bool, take, ◌+◌, ap, sym, ◌∙◌, subst, IsTrue, inl, inr, arith, get_or, nat_eq}
 use Rattle.std.specs.Prelude.{map}
 use Rattle.std.proofs.lemmas.List.{take_more, map-append}
+use Rattle.std.proofs.lemmas.Bool.{or_cases}
 use Rattle.cm_decl.specs.declared.decl.Decl.{Decl}
 use Rattle.cm_decl.specs.declared.node.DynChild.{DynChild}
 use Rattle.cm_decl.specs.declared.node.Node.{Node}
@@ -10,7 +11,6 @@ use Rattle.cm_decl.specs.RealmGraph.{Directly}
 use Rattle.cm_decl.specs.Reach.{NoCycle}
 use Rattle.cm_decl.specs.Cycle.{IsPickedCycle}
 use Rattle.cm_decl.proofs.orders.Orders as orders
-use Rattle.cm_decl.proofs.Sameness.{or_split}
 use Rattle.cm_deps.specs.Edges.{holds, IsBelow}
 use Rattle.cm_deps.specs.Ring.{LeadsToLeast, IsRing}
 use Rattle.cm_deps.specs.Implied.{IsOrderedGraph}
@@ -66,7 +66,7 @@ ring_reached d dynamic nodes after all ring sorted edges is whole =
 -- ---- a cycle
 
 ring_low : (after : List (List ℕ)) (listed : ℕ → Bool) (ring : List ℕ) → IsBelow after (length after) → IsRing after listed ring → (z : ℕ) → IsTrue (holds ring z) → z < length after
-ring_low after listed ring below is z held = elim (or_split (nat_eq z is.head) (holds is.others z) (subst (λ l. IsTrue (holds l z)) is.whole held)) as (λ _. z < length after) [
+ring_low after listed ring below is z held = elim (or_cases (nat_eq z is.head) (holds is.others z) (subst (λ l. IsTrue (holds l z)) is.whole held)) as (λ _. z < length after) [
   | inl first ↦ subst (λ k. k < length after) (sym (same_nat z is.head first)) top
   | inr behind ↦ way_inside after listed (length after) below is.head is.others is.head is.loop z behind
 ]

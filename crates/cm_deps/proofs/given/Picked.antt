@@ -5,10 +5,12 @@ use Rattle.std.specs.List.Sorted.{IsStrictlySortedBy}
 use Rattle.std.specs.Ordering.{ordering_reverse}
 use Rattle.std.specs.Cmp.{both_ways}
 use Rattle.std.proofs.Math.Bool.{and-false, or_self_left}
-use Rattle.std.proofs.lemmas.Bool.{cases_lt}
+use Rattle.std.proofs.lemmas.Bool.{cases_lt, or_cases}
 use Rattle.std.proofs.lemmas.List.{length-map, get_or-map}
 use Rattle.std.proofs.lemmas.Map.Keys.{sorted_tail}
 use borrow.Author.Tests.{ltb-true, lt-ltb}
+use Rattle.cm_facts.proofs.Booleans.{or_swap}
+use Rattle.cm_facts.proofs.Lists.{list_any_agree}
 use Rattle.cm_decl.specs.declared.decl.Decl.{Decl}
 use Rattle.cm_decl.specs.declared.node.DynChild.{DynChild}
 use Rattle.cm_decl.specs.declared.node.Node.{Node}
@@ -21,7 +23,7 @@ use Rattle.cm_decl.specs.Cycle.{IsPickedCycle}
 use Rattle.cm_decl.specs.Graph.{nodes, is_node, is_from_node, sources_of, is_strong_edge, StrongOn}
 use Rattle.cm_decl.specs.GraphInside.{realm}
 use Rattle.cm_decl.proofs.orders.Comparing.{node_cmp_exact}
-use Rattle.cm_decl.proofs.Sameness.{same_node-refl, same_node_exact, or_split}
+use Rattle.cm_decl.proofs.Sameness.{same_node-refl, same_node_exact}
 use Rattle.cm_deps.specs.Edges.{holds, IsToposorted}
 use Rattle.cm_deps.specs.Nodes.{at, IsIncreasing, IsNodes}
 use Rattle.cm_deps.specs.Sources.{IsEdges}
@@ -29,7 +31,6 @@ use Rattle.cm_deps.proofs.listed.Listing.{same_nat, nat_eq-refl, or_left, or_rig
 use Rattle.cm_deps.proofs.numbers.Numbering.{ring_picked}
 use Rattle.cm_deps.proofs.listed.Topological.{IsRealmOf}
 use Rattle.cm_deps.proofs.numbers.Depending.{listed_acyclic}
-use Rattle.cm_deps.proofs.numbers.Placing.{any_alike}
 use Rattle.cm_deps.proofs.numbers.Realms.{realm_of}
 use Rattle.cm_deps.proofs.numbers.Existing.{below, can_be_toposorted, has_ring}
 
@@ -46,11 +47,6 @@ record Put (ks : List Node) (k : Node) : Type 0 where
   increasing : IsIncreasing keys
   all : (x : Node) → list_any (same_node x) keys ≡ (same_node x k || list_any (same_node x) ks)
   above : (y : Node) → node_cmp y k ≡ Less → AllByRecursion (λ z. node_cmp y z ≡ Less) ks → AllByRecursion (λ z. node_cmp y z ≡ Less) keys
-
-or_swap : (p q r : Bool) → (p || (q || r)) ≡ (q || (p || r))
-or_swap true true r = refl
-or_swap true false r = refl
-or_swap false q r = refl
 
 put : (ks : List Node) → IsIncreasing ks → (k : Node) → Put ks k
 unfolding IsStrictlySortedBy
@@ -96,14 +92,14 @@ same_turned x y = both_ways (same_node x y) (same_node y x)
 nodes_of : (d : Decl) (dynamic : List DynChild) → (ks : List Node) × IsNodes (is_node d dynamic) ks
 nodes_of d dynamic =
     let all : (ks : List Node) × IsIncreasing ks × ((x : Node) → list_any (same_node x) ks ≡ list_any (same_node x) (nodes d dynamic)) = sorted (nodes d dynamic) in
-    (all.0, record { increasing = all.1; all = λ x. all.2 x ∙ any_alike (same_node x) (λ y. same_node y x) (same_turned x) (nodes d dynamic) })
+    (all.0, record { increasing = all.1; all = λ x. all.2 x ∙ list_any_agree (same_node x) (λ y. same_node y x) (same_turned x) (nodes d dynamic) })
 
 -- ---- their edges
 
 holds_below : (n j : ℕ) → holds (below n) j ≡ nat_lt j n
 holds_below zero j = both_ways false (nat_lt j 0) (λ h. absurd (true≢false (sym h))) (λ h. absurd (let low : j < 0 = ltb-true j 0 h in omega arith))
 holds_below (suc n) j = holds_push (below n) n j ∙ ap (λ b. b || nat_eq j n) (holds_below n j) ∙ both_ways (nat_lt j n || nat_eq j n) (nat_lt j (suc n))
-    (λ h. elim (or_split (nat_lt j n) (nat_eq j n) h) as (λ _. IsTrue (nat_lt j (suc n))) [
+    (λ h. elim (or_cases (nat_lt j n) (nat_eq j n) h) as (λ _. IsTrue (nat_lt j (suc n))) [
       | inl low ↦ lt-ltb j (suc n) (let before : j < n = ltb-true j n low in omega arith)
       | inr same ↦ lt-ltb j (suc n) (let here : j ≡ n = same_nat j n same in omega arith)
     ])

@@ -1,8 +1,8 @@
 use Rattle.std.proofs.Common.{◌≡◌, ◌≢◌, ℕ, ◌<◌, List, [], ◌∷◌, ◌++◌, length, Bool, true, false, not, ◌&&◌, true≢false, Some, refl, sym, ◌∙◌, ap, subst, IsTrue, inl, inr, ◌⊎◌, arith, nat_eq}
 use Rattle.std.specs.Prelude.{reverse, if◌then◌else◌, slice_get}
 use Rattle.std.proofs.lemmas.List.Folds.{list_any-append}
+use Rattle.std.proofs.lemmas.Bool.{or_cases}
 use Rattle.cm_decl.specs.Reach.{DependencyPath, Reaches}
-use Rattle.cm_decl.proofs.Sameness.{or_split}
 use Rattle.cm_deps.specs.Edges.{holds, is_set, row, On, IsBelow, IsToposorted, IsReach}
 use Rattle.cm_deps.specs.Implied.{IsApart, IsFull, IsOrderedGraph, row_with}
 use Rattle.cm_deps.proofs.listed.Listing.{same_nat, nat_eq-refl, or_left, or_right, or_none}
@@ -27,7 +27,7 @@ pub record IsFillingFull (after : List (List ℕ)) (near : List Bool) (full : Li
 
 -- what a row with the implied edge holds
 row_split : (i : ℕ) (r : List ℕ) (near : Bool) (j : ℕ) → IsTrue (holds (row_with i r near) j) → IsTrue (holds r j) ⊎ ((i ≢ 0) × (near ≡ false) × (j ≡ 0))
-row_split i r near j held = elim (or_split (holds r j) (holds (if not (nat_eq i 0) && not near then 0 ∷ [] else []) j) (sym (list_any-append (nat_eq j) r (if not (nat_eq i 0) && not near then 0 ∷ [] else [])) ∙ held)) as (λ _. IsTrue (holds r j) ⊎ ((i ≢ 0) × (near ≡ false) × (j ≡ 0))) [
+row_split i r near j held = elim (or_cases (holds r j) (holds (if not (nat_eq i 0) && not near then 0 ∷ [] else []) j) (sym (list_any-append (nat_eq j) r (if not (nat_eq i 0) && not near then 0 ∷ [] else [])) ∙ held)) as (λ _. IsTrue (holds r j) ⊎ ((i ≢ 0) × (near ≡ false) × (j ≡ 0))) [
   | inl here ↦ inl here
   | inr there ↦ inr (tail (nat_eq i 0) near refl there)
 ]

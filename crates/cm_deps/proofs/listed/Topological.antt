@@ -1,14 +1,14 @@
 use Rattle.std.proofs.Common.{◌≡◌, ℕ, zero, suc, ◌<◌, List, [], ◌∷◌, length, Bool, true, false, not, ◌&&◌, ◌||◌, true≢false, Some, refl, sym, ◌∙◌, ap, subst, IsTrue, inl, inr, arith, nat_eq}
 use Rattle.std.specs.Prelude.{map, filter, slice_get, if◌then◌else◌}
 use Rattle.std.proofs.lemmas.List.Sums.{length-filter}
-use Rattle.std.proofs.lemmas.Bool.{and_from, not-true, not_from_false}
+use Rattle.std.proofs.lemmas.Bool.{and_from, not-true, not_from_false, or_cases}
 use Rattle.std.specs.Cmp.{first_so, second_so}
 use Rattle.cm_decl.specs.declared.node.Node.{Node}
 use Rattle.cm_decl.specs.Same.{same_node}
 use Rattle.cm_decl.specs.Reach.{DependencyPath, Reaches}
 use Rattle.cm_decl.specs.RealmGraph.{RealmGraph, Strong, Directly}
 use Rattle.cm_decl.specs.GraphInside.{IsTopologicalOrder}
-use Rattle.cm_decl.proofs.Sameness.{or_split, same_node-refl, same_node_exact}
+use Rattle.cm_decl.proofs.Sameness.{same_node-refl, same_node_exact}
 use Rattle.cm_decl.proofs.cycles.Reaching.{Reaches-trans}
 use Rattle.cm_deps.specs.Edges.{holds, On, IsBelow, IsReverseTopological, IsToposorted, IsReach, Waits}
 use Rattle.cm_deps.specs.Ring.{Once}
@@ -37,7 +37,7 @@ full_listed after reached full first order some below reach is grown all toposor
     stays i y on open_y = and_from (holds first y) (not (holds order y)) (all y (below i y on)) (not_from_false (holds order y) open_y)
 
     near_on : (i y : ℕ) → IsTrue (nat_eq i 0 || holds reached i) → On after i y → IsTrue (nat_eq y 0 || holds reached y)
-    near_on i y here on = or_right (nat_eq y 0) (holds reached y) (reach.all y (elim (or_split (nat_eq i 0) (holds reached i) here) as (λ _. Reaches (On after) 0 y) [
+    near_on i y here on = or_right (nat_eq y 0) (holds reached y) (reach.all y (elim (or_cases (nat_eq i 0) (holds reached i) here) as (λ _. Reaches (On after) 0 y) [
       | inl own ↦ ([], subst (λ z. On after z y) (same_nat i 0 own) on)
       | inr far ↦ Reaches-trans (On after) 0 i y (reach.only i far) ([], on)
     ]))
@@ -48,7 +48,7 @@ full_listed after reached full first order some below reach is grown all toposor
         let next : (y : ℕ) × On full i y × (holds order y ≡ false) = onward i (second_so (nat_eq i 0 || holds reached i) (holds first i && not (holds order i)) here) in
         elim (is.only i next.0 next.1) as (λ _. (y : ℕ) × IsTrue ((nat_eq y 0 || holds reached y) && (holds first y && not (holds order y))) × On after i y) [
           | inl on ↦ (next.0, and_from (nat_eq next.0 0 || holds reached next.0) (holds first next.0 && not (holds order next.0)) (near_on i next.0 close on) (stays i next.0 on next.2), on)
-          | inr far ↦ absurd (elim (or_split (nat_eq i 0) (holds reached i) close) as (λ _. ⊥) [
+          | inr far ↦ absurd (elim (or_cases (nat_eq i 0) (holds reached i) close) as (λ _. ⊥) [
             | inl own ↦ far.child (same_nat i 0 own)
             | inr held ↦ true≢false (sym held ∙ far.apart)
           ])

@@ -3,9 +3,8 @@ use Rattle.std.specs.Prelude.{count_by, cond, replicate}
 use Rattle.std.proofs.lemmas.List.{length-append, length-set, length-replicate}
 use Rattle.std.proofs.lemmas.List.Folds.{list_any-append}
 use Rattle.std.proofs.lemmas.List.Sums.{sum_by-set}
-use Rattle.std.proofs.lemmas.Bool.{or_parts, or_from}
+use Rattle.std.proofs.lemmas.Bool.{or_parts, or_from, or_cases}
 use Rattle.cm_decl.specs.Reach.{DependencyPath, Reaches}
-use Rattle.cm_decl.proofs.Sameness.{or_split}
 use Rattle.cm_deps.specs.Edges.{holds, is_set, row, IsBelow, IsVisited, IsToposorted, Waits}
 use Rattle.cm_deps.specs.Ring.{LeadsToLeast, EachHasUnlisted, Once, IsTrail, IsWalk, IsLeastLeft, IsFirstLeft, IsRotated, IsRing}
 use Rattle.cm_deps.proofs.listed.Listing.{same_nat, nat_eq-refl, or_left, or_right, holds_push}
@@ -120,9 +119,9 @@ turned_loop Onward start node back ring (suc place) reached loop once inside lea
   where
     among : (x : ℕ) → back ≡ take place back ++ get_or back place 0 ∷ drop (place + 1) back → IsTrue (holds (drop (place + 1) back ++ node ∷ take place back) x) → IsTrue (holds (node ∷ back) x)
     among x cut held =
-        elim (or_split (holds (drop (place + 1) back) x) (holds (node ∷ take place back) x) (sym (list_any-append (nat_eq x) (drop (place + 1) back) (node ∷ take place back)) ∙ held)) as (λ _. IsTrue (holds (node ∷ back) x)) [
+        elim (or_cases (holds (drop (place + 1) back) x) (holds (node ∷ take place back) x) (sym (list_any-append (nat_eq x) (drop (place + 1) back) (node ∷ take place back)) ∙ held)) as (λ _. IsTrue (holds (node ∷ back) x)) [
           | inl behind ↦ or_right (nat_eq x node) (holds back x) (ap (λ l. holds l x) cut ∙ list_any-append (nat_eq x) (take place back) (get_or back place 0 ∷ drop (place + 1) back) ∙ or_right (holds (take place back) x) (holds (get_or back place 0 ∷ drop (place + 1) back) x) (or_right (nat_eq x (get_or back place 0)) (holds (drop (place + 1) back) x) behind))
-          | inr before ↦ (elim (or_split (nat_eq x node) (holds (take place back) x) before) as (λ _. IsTrue (holds (node ∷ back) x)) [
+          | inr before ↦ (elim (or_cases (nat_eq x node) (holds (take place back) x) before) as (λ _. IsTrue (holds (node ∷ back) x)) [
             | inl here ↦ or_left (nat_eq x node) (holds back x) here
             | inr prefix ↦ or_right (nat_eq x node) (holds back x) (ap (λ l. holds l x) cut ∙ list_any-append (nat_eq x) (take place back) (get_or back place 0 ∷ drop (place + 1) back) ∙ or_left (holds (take place back) x) (holds (get_or back place 0 ∷ drop (place + 1) back) x) prefix)
           ])

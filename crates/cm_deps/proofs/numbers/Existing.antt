@@ -1,10 +1,9 @@
 use Rattle.std.proofs.Common.{◌≡◌, ℕ, zero, suc, ◌+◌, ◌<◌, ◌≤◌, List, [], ◌∷◌, ◌++◌, length, take, drop, set, Bool, true, false, not, ◌&&◌, true≢false, refl, sym, ◌∙◌, ap, subst, IsTrue, inl, inr, ◌⊎◌, arith, get_or, nat_eq, Some}
 use Rattle.std.specs.Prelude.{map, replicate, count_by, slice_get}
 use Rattle.std.specs.List.{list_any, list_all}
-use Rattle.std.proofs.lemmas.Bool.{cases_lt, not-true}
+use Rattle.std.proofs.lemmas.Bool.{cases_lt, not-true, or_cases}
 use Rattle.std.proofs.lemmas.List.{length-append, length-map, length-drop, get_or-map, get_or_past, get_or_append_left}
 use Rattle.std.proofs.Math.Seq.{get_or-append_seam}
-use Rattle.cm_decl.proofs.Sameness.{or_split}
 use Rattle.cm_deps.specs.Edges.{holds, is_set, row, On, IsBelow, IsListing, IsToposorted}
 use Rattle.cm_deps.specs.Ring.{IsLeastLeft, IsFirstLeft, IsWalk, IsRotated, IsRing, EachHasUnlisted}
 use Rattle.cm_deps.proofs.listed.Listing.{same_nat, nat_eq-refl, or_left, or_right, one_fails, listing_more}
@@ -100,14 +99,14 @@ can_be_toposorted after = toposort_on after (length after) [] (replicate (length
 
 one_open : (xs : List ℕ) (p : ℕ → Bool) → IsTrue (list_any (λ v. not (p v)) xs) → (v : ℕ) × IsTrue (holds xs v) × (p v ≡ false)
 one_open [] p some = absurd (true≢false (sym some))
-one_open (x ∷ xs) p some = elim (or_split (not (p x)) (list_any (λ v. not (p v)) xs) some) as (λ _. (v : ℕ) × IsTrue (holds (x ∷ xs) v) × (p v ≡ false)) [
+one_open (x ∷ xs) p some = elim (or_cases (not (p x)) (list_any (λ v. not (p v)) xs) some) as (λ _. (v : ℕ) × IsTrue (holds (x ∷ xs) v) × (p v ≡ false)) [
   | inl here ↦ (x, or_left (nat_eq x x) (holds xs x) (nat_eq-refl x), not-true (p x) here)
   | inr there ↦ (let rest : (v : ℕ) × IsTrue (holds xs v) × (p v ≡ false) = one_open xs p there in (rest.0, or_right (nat_eq rest.0 x) (holds xs rest.0) rest.1, rest.2))
 ]
 
 open_some : (xs : List ℕ) (p : ℕ → Bool) (v : ℕ) → IsTrue (holds xs v) → p v ≡ false → IsTrue (list_any (λ w. not (p w)) xs)
 open_some [] p v held left = absurd (true≢false (sym held))
-open_some (x ∷ xs) p v held left = elim (or_split (nat_eq v x) (holds xs v) held) as (λ _. IsTrue (list_any (λ w. not (p w)) (x ∷ xs))) [
+open_some (x ∷ xs) p v held left = elim (or_cases (nat_eq v x) (holds xs v) held) as (λ _. IsTrue (list_any (λ w. not (p w)) (x ∷ xs))) [
   | inl same ↦ or_left (not (p x)) (list_any (λ w. not (p w)) xs) (subst (λ w. IsTrue (not (p w))) (same_nat v x same) (ap not left))
   | inr there ↦ or_right (not (p x)) (list_any (λ w. not (p w)) xs) (open_some xs p v there left)
 ]
@@ -148,7 +147,7 @@ least_of [] p y held left = absurd (true≢false (sym held))
 least_of (z ∷ zs) p y held left = by (p z) refl (list_any (λ v. not (p v)) zs) refl (λ v there open_v. least_of zs p v there open_v)
   where
     after_first : (v : ℕ) → IsTrue (holds (z ∷ zs) v) → (v ≡ z) ⊎ IsTrue (holds zs v)
-    after_first v there = elim (or_split (nat_eq v z) (holds zs v) there) as (λ _. (v ≡ z) ⊎ IsTrue (holds zs v)) [ inl same ↦ inl (same_nat v z same) | inr later ↦ inr later ]
+    after_first v there = elim (or_cases (nat_eq v z) (holds zs v) there) as (λ _. (v ≡ z) ⊎ IsTrue (holds zs v)) [ inl same ↦ inl (same_nat v z same) | inr later ↦ inr later ]
 
     choose : (b : Bool) → p z ≡ b → (x : ℕ) × IsLeastLeft zs p x → (x : ℕ) × IsLeastLeft (z ∷ zs) p x
     choose true e (x, least) = (

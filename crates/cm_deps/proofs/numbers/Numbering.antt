@@ -2,7 +2,7 @@ use Rattle.std.proofs.Common.{◌≡◌, ℕ, zero, suc, ◌<◌, ◌≤◌, Lis
 use Rattle.std.specs.Prelude.{map}
 use Rattle.std.specs.List.{list_any, list_all}
 use Rattle.std.specs.Ordering.{is_le, ordering_reverse}
-use Rattle.std.proofs.lemmas.Bool.{cases_lt, not-true}
+use Rattle.std.proofs.lemmas.Bool.{cases_lt, not-true, or_cases}
 use Rattle.std.specs.Cmp.{first_so, second_so}
 use Rattle.cm_decl.specs.declared.node.Node.{Node}
 use Rattle.cm_decl.specs.Same.{same_node}
@@ -10,7 +10,7 @@ use Rattle.cm_decl.specs.NodeOrder.{node_cmp, node_at_most}
 use Rattle.cm_decl.specs.NodeOrderInside.{node_cmp_total}
 use Rattle.cm_decl.specs.Reach.{DependencyPath, Reaches}
 use Rattle.cm_decl.specs.Cycle.{InCore, IsLeast, NextInCore, IsPickedCycle}
-use Rattle.cm_decl.proofs.Sameness.{or_split, same_node-refl, same_node_exact}
+use Rattle.cm_decl.proofs.Sameness.{same_node-refl, same_node_exact}
 use Rattle.cm_deps.specs.Edges.{holds, On, IsBelow, IsToposorted, Waits}
 use Rattle.cm_deps.specs.Ring.{LeadsToLeast, IsFirstLeft, IsRing}
 pub use Rattle.cm_deps.specs.Nodes.{at}
@@ -73,7 +73,7 @@ left_of (y ∷ ys) listed x = (same_node y x && not (listed 0)) || left_of ys (�
 pub left_number : (nodes : List Node) (listed : ℕ → Bool) (x : Node) → IsTrue (left_of nodes listed x) → (i : ℕ) × (i < length nodes) × (at nodes i ≡ x) × (listed i ≡ false)
 unfolding left_of
 left_number [] listed x h = absurd (true≢false (sym h))
-left_number (y ∷ ys) listed x h = elim (or_split (same_node y x && not (listed 0)) (left_of ys (λ i. listed (suc i)) x) h) as (λ _. (i : ℕ) × (i < length (y ∷ ys)) × (at (y ∷ ys) i ≡ x) × (listed i ≡ false)) [
+left_number (y ∷ ys) listed x h = elim (or_cases (same_node y x && not (listed 0)) (left_of ys (λ i. listed (suc i)) x) h) as (λ _. (i : ℕ) × (i < length (y ∷ ys)) × (at (y ∷ ys) i ≡ x) × (listed i ≡ false)) [
   | inl here ↦ (0, omega arith, same_node_exact y x (first_so (same_node y x) (not (listed 0)) here), not-true (listed 0) (second_so (same_node y x) (not (listed 0)) here))
   | inr there ↦ (let rest : (i : ℕ) × (i < length ys) × (at ys i ≡ x) × (listed (suc i) ≡ false) = left_number ys (λ i. listed (suc i)) x there in (suc rest.0, omega arith, rest.2, rest.3))
 ]
@@ -184,7 +184,7 @@ leads_follows nodes edge after order numbered toposorted i j low leads =
 -- the nodes of a way are inside
 pub way_inside : (after : List (List ℕ)) (listed : ℕ → Bool) (n : ℕ) → IsBelow after n → (x : ℕ) (xs : List ℕ) (y : ℕ) → DependencyPath (LeadsToLeast after listed) x xs y → (z : ℕ) → IsTrue (holds xs z) → z < n
 way_inside after listed n below x [] y way z held = absurd (true≢false (sym held))
-way_inside after listed n below x (v ∷ vs) y way z held = elim (or_split (nat_eq z v) (holds vs z) held) as (λ _. z < n) [
+way_inside after listed n below x (v ∷ vs) y way z held = elim (or_cases (nat_eq z v) (holds vs z) held) as (λ _. z < n) [
   | inl here ↦ subst (λ k. k < n) (sym (same_nat z v here)) (below x v way.0.on)
   | inr there ↦ way_inside after listed n below v vs y way.1 z there
 ]

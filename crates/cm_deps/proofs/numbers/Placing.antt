@@ -7,10 +7,11 @@ use Rattle.std.specs.Result.{result_ok}
 use Rattle.std.specs.BTreeMap.{is_at}
 use Rattle.std.specs.Cmp.{both_ways}
 use Rattle.std.proofs.Math.Bool.{or-false, or_assoc}
-use Rattle.std.proofs.lemmas.Bool.{cases_lt}
+use Rattle.std.proofs.lemmas.Bool.{cases_lt, or_cases}
 use Rattle.std.proofs.lemmas.List.{take_all}
 use Rattle.std.proofs.lemmas.List.Folds.{list_any_more, list_any-append}
 use Rattle.std.proofs.lemmas.Map.Keys.{Less-from_sorted}
+use Rattle.cm_facts.proofs.Lists.{list_any_agree, list_any_map}
 use Rattle.cm_decl.specs.declared.decl.Decl.{Decl}
 use Rattle.cm_decl.specs.declared.node.DynChild.{DynChild}
 use Rattle.cm_decl.specs.declared.node.Node.{Node}
@@ -20,7 +21,7 @@ use Rattle.cm_decl.specs.NodeOrder.{node_cmp}
 use Rattle.cm_decl.specs.NodeOrderInside.{node_cmp_total}
 use Rattle.cm_decl.specs.Graph.{is_node, static_node, dynamic_node}
 use Rattle.cm_decl.proofs.orders.Comparing.{node_cmp_exact}
-use Rattle.cm_decl.proofs.Sameness.{same_node-refl, same_node_exact, or_split}
+use Rattle.cm_decl.proofs.Sameness.{same_node-refl, same_node_exact}
 use Rattle.cm_deps.specs.Nodes.{at, IsIncreasing, IsNodeNumber}
 use Rattle.cm_deps.proofs.listed.Listing.{or_right}
 
@@ -43,17 +44,9 @@ same_by_cmp x y = both_ways (is_eq (node_cmp x y)) (same_node x y)
     equal_of Equal h = refl
     equal_of Greater h = absurd (true≢false (sym h))
 
-pub any_alike : {A : Type 0} (p q : A → Bool) → ((x : A) → p x ≡ q x) → (xs : List A) → list_any p xs ≡ list_any q xs
-any_alike p q same [] = refl
-any_alike p q same (x ∷ xs) = ap (λ v. v || list_any p xs) (same x) ∙ ap (λ v. q x || v) (any_alike p q same xs)
-
-pub any_mapped : {A B : Type 0} (p : B → Bool) (f : A → B) (xs : List A) → list_any p (map f xs) ≡ list_any (λ x. p (f x)) xs
-any_mapped p f [] = refl
-any_mapped p f (x ∷ xs) = ap (λ v. p (f x) || v) (any_mapped p f xs)
-
 -- what a set of nodes contains, in other words
 pub contains_same : (x : Node) (ks : List Node) → list_any (is_at (node_cmp x)) ks ≡ list_any (same_node x) ks
-contains_same x ks = any_alike (is_at (node_cmp x)) (same_node x) (λ y. same_by_cmp x y) ks
+contains_same x ks = list_any_agree (is_at (node_cmp x)) (same_node x) (λ y. same_by_cmp x y) ks
 
 true_or : (p q : Bool) → cond p true q ≡ (q || p)
 true_or true true = refl
@@ -73,7 +66,7 @@ placed_none node rows before x = sym (or-false (before x))
 
 -- all rows
 pub placed_all : {A : Type 0} (node : A → Node) (rows : List A) (before new : Node → Bool) → ((x : Node) → new x ≡ (before x || list_any (λ r. same_node (node r) x) rows)) → (x : Node) → new x ≡ (before x || list_any (λ y. same_node y x) (map node rows))
-placed_all node rows before new all x = all x ∙ ap (λ v. before x || v) (sym (any_mapped (λ y. same_node y x) node rows))
+placed_all node rows before new all x = all x ∙ ap (λ v. before x || v) (sym (list_any_map (λ y. same_node y x) node rows))
 
 pub placed_end : {A : Type 0} (node : A → Node) (rows : List A) (i : ℕ) (before new : Node → Bool) → i ≤ length rows → length rows ≤ i → ((x : Node) → new x ≡ (before x || list_any (λ r. same_node (node r) x) (take i rows))) → (x : Node) → new x ≡ (before x || list_any (λ y. same_node y x) (map node rows))
 placed_end node rows i before new high low so_far = placed_all node rows before new (λ x. so_far x ∙ ap (λ l. before x || list_any (λ r. same_node (node r) x) l) (take_all i rows low))
@@ -95,7 +88,7 @@ nodes_all d dynamic keys none first second empty own declared all x =
 -- a node that is among others stands at a place
 pub found_at : (x : Node) (nodes : List Node) → IsTrue (list_any (same_node x) nodes) → (i : ℕ) × (i < length nodes) × (at nodes i ≡ x)
 found_at x [] h = absurd (true≢false (sym h))
-found_at x (y ∷ ys) h = elim (or_split (same_node x y) (list_any (same_node x) ys) h) as (λ _. (i : ℕ) × (i < length (y ∷ ys)) × (at (y ∷ ys) i ≡ x)) [
+found_at x (y ∷ ys) h = elim (or_cases (same_node x y) (list_any (same_node x) ys) h) as (λ _. (i : ℕ) × (i < length (y ∷ ys)) × (at (y ∷ ys) i ≡ x)) [
   | inl here ↦ (0, omega arith, sym (same_node_exact x y here))
   | inr there ↦ (let rest : (i : ℕ) × (i < length ys) × (at ys i ≡ x) = found_at x ys there in (suc rest.0, omega arith, rest.2))
 ]

@@ -4,6 +4,7 @@ use Rattle.std.specs.List.{filter_map, cons_option}
 use Rattle.std.proofs.lemmas.Bool.{lt-ltb, le-ltb, ltb-true, eq-eqb, ne_eqb}
 use Rattle.std.specs.Cmp.{first_so, second_so}
 use Rattle.cm_names.specs.declared.child.ChildName.{ChildName}
+use Rattle.cm_facts.proofs.Options.{cons_option_append, cond_is_some}
 use Rattle.cm_decl.specs.declared.node.DynChild.{DynChild}
 use Rattle.cm_world.specs.declared.row.Row.{Row}
 use Rattle.cm_world.specs.Rows.{row_of, has_parent}
@@ -74,17 +75,13 @@ all_behind p after (r ∷ rs) all =
 living : (r : Row) (rs : List Row) → IsSome (row_of (r ∷ rs) r.inc)
 living r rs = ap (λ b. is_some (cond b (Some r) (row_of rs r.inc))) (eq-eqb r.inc r.inc refl)
 
-living_by : (b : Bool) (r : Row) (o : Option Row) → IsSome o → IsSome (cond b (Some r) o)
-living_by true r o h = refl
-living_by false r o h = h
-
 -- the rows behind one have higher incarnations
 above_all : (a next : ℕ) (rows : List Row) → ((s : ℕ) → IsSome (row_of rows s) → a < s) → IncarnationsIncrease next rows → AllBehind (Some a) rows
 unfolding AllBehind
 above_all a next [] above increasing = tt
 above_all a next (r ∷ rs) above increasing = (
   lt-ltb a r.inc (above r.inc (living r rs)),
-  above_all a next rs (λ s lives. above s (living_by (r.inc == s) r (row_of rs s) lives)) increasing.1,
+  above_all a next rs (λ s lives. above s (cond_is_some (r.inc == s) r (row_of rs s) lives)) increasing.1,
 )
 
 behind_all : (after : Option ℕ) (a : ℕ) (rows : List Row) → is_behind after a ≡ true → AllBehind (Some a) rows → AllBehind after rows
@@ -141,10 +138,6 @@ found_by : (o : Option Row) (i : ℕ) → option_map (λ r. r.inc) o ≡ Some i 
 found_by None i e = absurd (none_some i e)
 found_by (Some s) i e = (s, refl, some_same s.inc i e)
 
-joined : (o : Option DynChild) (xs : List DynChild) → cons_option o xs ≡ option_to_list o ++ xs
-joined None xs = refl
-joined (Some x) xs = refl
-
 -- the children behind an incarnation are the next one, if it is in a collection and isn't doomed, and those behind it
 pub next_behind : (rows : List Row) (next p i : ℕ) (after : Option ℕ) → IncarnationsIncrease next rows → child_behind rows p after ≡ Some i → siblings_behind rows p after ≡ option_to_list (option_and_then sibling_of (row_of rows i)) ++ siblings_behind rows p (Some i)
 unfolding follows taken
@@ -152,7 +145,7 @@ next_behind rows next p i after increasing e =
     let found : (s : Row) × (find (follows p after) rows ≡ Some s) × (s.inc ≡ i) = found_by (find (follows p after) rows) i e in
     let first : IsFirst rows p after found.0 = first_found rows next p after found.0 increasing found.1 in
     first.split
-    ∙ joined (sibling_of found.0) (siblings_behind rows p (Some found.0.inc))
+    ∙ cons_option_append (sibling_of found.0) (siblings_behind rows p (Some found.0.inc))
     ∙ sym (ap (λ o. option_to_list (option_and_then sibling_of o) ++ siblings_behind rows p (Some found.0.inc)) first.lives)
     ∙ ap (λ j. option_to_list (option_and_then sibling_of (row_of rows j)) ++ siblings_behind rows p (Some j)) found.2
 

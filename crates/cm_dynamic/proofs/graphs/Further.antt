@@ -2,9 +2,10 @@
 use Rattle.std.proofs.Common.{◌≡◌, ℕ, List, [], ◌∷◌, ◌++◌, Bool, true, false, ◌&&◌, ◌||◌, true≢false, Option, Some, None, IsTrue, is_some, is_none, filter, map, option_and_then, refl, sym, ◌∙◌, ap, subst, inl, inr, append_assoc, append-nil}
 use Rattle.std.specs.List.{list_any, list_all, cons_option}
 use Rattle.std.proofs.lemmas.List.Folds.{list_any-append}
-use Rattle.std.proofs.lemmas.Bool.{and_from as and_pair, or_left, or_right}
+use Rattle.std.proofs.lemmas.Bool.{and_from as and_pair, or_left, or_right, or_cases}
 use Rattle.std.specs.Cmp.{first_so, second_so}
 use Rattle.cm_names.specs.declared.child.ChildName.{ChildName}
+use Rattle.cm_facts.proofs.Booleans.{or_assoc}
 use Rattle.cm_decl.specs.declared.decl.Decl.{Decl}
 use Rattle.cm_decl.specs.declared.rows.Give.{Give}
 use Rattle.cm_decl.specs.declared.node.DynChild.{DynChild}
@@ -13,7 +14,7 @@ use Rattle.cm_decl.specs.declared.node.Node.TheVariants.{Own, Child}
 use Rattle.cm_decl.specs.Same.{same_child, same_node}
 use Rattle.cm_decl.specs.Reach.{DependencyPath, NoCycle}
 use Rattle.cm_decl.specs.Graph.{is_node, is_strong, is_from_node, static_node, dynamic_node, offers_to, gives_of, sources_of, StrongOn}
-use Rattle.cm_decl.proofs.Sameness.{or_split, never, same_child_exact}
+use Rattle.cm_decl.proofs.Sameness.{never, same_child_exact}
 use Rattle.cm_world.specs.declared.row.Row.{Row}
 use Rattle.cm_world.specs.Rows.{has_parent}
 use Rattle.cm_world.specs.Create.{dynamic_name, dynamic_by, dynamic_children}
@@ -21,10 +22,6 @@ use Rattle.cm_dynamic.specs.Apart.{is_from_created, is_plain_give, is_plain_offe
 use Rattle.cm_dynamic.proofs.graphs.Rings.{all_join, IsKept, one_kept, is_static, some_not_none, unbound, static_source, own_static, plain_offers}
 
 -- ---- lists
-
-or_assoc : (a b c : Bool) → (a || (b || c)) ≡ ((a || b) || c)
-or_assoc true b c = refl
-or_assoc false b c = refl
 
 -- what is kept of two lists
 pub any_kept : {A B : Type 0} (q : B → Bool) (f : A → B) (t : A → Bool) (xs ys : List A) → list_any q (map f (filter t (xs ++ ys))) ≡ (list_any q (map f (filter t xs)) || list_any q (map f (filter t ys)))
@@ -118,9 +115,9 @@ module _ (d : Decl) (old : List DynChild) (k : DynChild)
   from_old (Child c) y created any =
       let test : List Give → Bool = λ gs. list_any (is_from_node y) (map (λ g. g.from) (filter (λ g. is_strong g.dependency) gs)) in
       let parts : IsTrue (test (offers_to d c) || test (gives_of old c ++ gives_of (k ∷ []) c)) = sym (any_kept (is_from_node y) (λ g. g.from) (λ g. is_strong g.dependency) (offers_to d c) (gives_of old c ++ gives_of (k ∷ []) c)) ∙ sym (ap (λ l. test (offers_to d c ++ l)) (gives_more k c old)) ∙ any in
-      elim (or_split (test (offers_to d c)) (test (gives_of old c ++ gives_of (k ∷ []) c)) parts) [
+      elim (or_cases (test (offers_to d c)) (test (gives_of old c ++ gives_of (k ∷ []) c)) parts) [
         | inl offered ↦ absurd (none_created y (offers_to d c) created (plain_offers d [] declared c) offered)
-        | inr given ↦ elim (or_split (test (gives_of old c)) (test (gives_of (k ∷ []) c)) (sym (any_kept (is_from_node y) (λ g. g.from) (λ g. is_strong g.dependency) (gives_of old c) (gives_of (k ∷ []) c)) ∙ given)) [
+        | inr given ↦ elim (or_cases (test (gives_of old c)) (test (gives_of (k ∷ []) c)) (sym (any_kept (is_from_node y) (λ g. g.from) (λ g. is_strong g.dependency) (gives_of old c) (gives_of (k ∷ []) c)) ∙ given)) [
           | inl before ↦
               let sibling : IsTrue (list_any (λ n. same_node n (Child c)) (map dynamic_node old)) × IsTrue (is_some c.coll) = any_sibling (λ g. is_strong g.dependency) c y old all before in
               record {
@@ -188,7 +185,7 @@ module _ (d : Decl) (old : List DynChild) (k : DynChild)
   still_node : (x : Node) → IsTrue (is_static x) → IsTrue (is_node d (old ++ k ∷ []) x) → IsTrue (is_node d old x)
   still_node Own static node = refl
   still_node (Child c) static node =
-      elim (or_split (list_any (λ n. same_node n (Child c)) (Own ∷ map static_node d.children)) (list_any (λ n. same_node n (Child c)) (map dynamic_node (old ++ k ∷ [])))
+      elim (or_cases (list_any (λ n. same_node n (Child c)) (Own ∷ map static_node d.children)) (list_any (λ n. same_node n (Child c)) (map dynamic_node (old ++ k ∷ [])))
       (sym (list_any-append (λ n. same_node n (Child c)) (Own ∷ map static_node d.children) (map dynamic_node (old ++ k ∷ []))) ∙ node)) [
         | inl here ↦ list_any-append (λ n. same_node n (Child c)) (Own ∷ map static_node d.children) (map dynamic_node old) ∙ or_left (list_any (λ n. same_node n (Child c)) (Own ∷ map static_node d.children)) (list_any (λ n. same_node n (Child c)) (map dynamic_node old)) here
         | inr created ↦ old_node c (before c static old created)
@@ -197,7 +194,7 @@ module _ (d : Decl) (old : List DynChild) (k : DynChild)
       before : (c : ChildName) → IsTrue (is_static (Child c)) → (ks : List DynChild) → IsTrue (list_any (λ n. same_node n (Child c)) (map dynamic_node (ks ++ k ∷ []))) → IsTrue (list_any (λ n. same_node n (Child c)) (map dynamic_node ks))
       before c static [] there = absurd (true≢false (sym there ∙ ap (λ b. b || false) (other_name c static)))
       before c static (x ∷ xs) there =
-          elim (or_split (same_child x.name c) (list_any (λ n. same_node n (Child c)) (map dynamic_node (xs ++ k ∷ []))) there) [
+          elim (or_cases (same_child x.name c) (list_any (λ n. same_node n (Child c)) (map dynamic_node (xs ++ k ∷ []))) there) [
             | inl here ↦ or_left (same_child x.name c) (list_any (λ n. same_node n (Child c)) (map dynamic_node xs)) here
             | inr later ↦ or_right (same_child x.name c) (list_any (λ n. same_node n (Child c)) (map dynamic_node xs)) (before c static xs later)
           ]

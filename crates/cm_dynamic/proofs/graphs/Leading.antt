@@ -5,7 +5,7 @@ use Rattle.std.specs.Option.{option_map_or}
 use Rattle.std.specs.BTreeSet.{BTreeSet}
 use Rattle.std.proofs.lemmas.List.{map-append}
 use Rattle.std.proofs.lemmas.List.Folds.{list_any-append}
-use Rattle.std.proofs.lemmas.Bool.{and_from as and_pair}
+use Rattle.std.proofs.lemmas.Bool.{and_from as and_pair, or_cases}
 use Rattle.std.specs.Cmp.{first_so, second_so}
 use Rattle.cm_names.specs.declared.child.ChildName.{ChildName}
 use Rattle.cm_decl.specs.declared.decl.Decl.{Decl}
@@ -19,7 +19,7 @@ use Rattle.cm_decl.specs.declared.origin.Origin.TheVariants as origin
 use Rattle.cm_decl.specs.Same.{same_child, same_node}
 use Rattle.cm_decl.specs.Reach.{DependencyPath, Reaches, NoCycle}
 use Rattle.cm_decl.specs.Graph.{nodes, is_node, static_name, is_strong, is_from_node, static_node, dynamic_node, offers_to, gives_of, child_sources, sources_of, StrongOn}
-use Rattle.cm_decl.proofs.Sameness.{or_split, never, same_child_exact, same_node-refl, same_node_exact}
+use Rattle.cm_decl.proofs.Sameness.{never, same_child_exact, same_node-refl, same_node_exact}
 use Rattle.cm_decl.proofs.orders.Orders.{edge_nodes}
 use Rattle.cm_decl.proofs.cycles.Reaching.{Reaches-trans}
 use Rattle.cm_deps.proofs.given.Sourcing.{given_other, given_same, passing_any}
@@ -44,9 +44,9 @@ more_nodes d old k x =
     ∙ list_any-append (λ y. same_node y x) (nodes d old) (Child k.name ∷ [])
 
 other_node : (d : Decl) (old : List DynChild) (k : DynChild) (x : Node) → (x ≡ Child k.name → ⊥) → IsTrue (is_node d (old ++ k ∷ []) x) → IsTrue (is_node d old x)
-other_node d old k x apart has = elim (or_split (is_node d old x) (same_node (Child k.name) x || false) (sym (more_nodes d old k x) ∙ has)) as (λ _. IsTrue (is_node d old x)) [
+other_node d old k x apart has = elim (or_cases (is_node d old x) (same_node (Child k.name) x || false) (sym (more_nodes d old k x) ∙ has)) as (λ _. IsTrue (is_node d old x)) [
   | inl before ↦ before
-  | inr new ↦ (elim (or_split (same_node (Child k.name) x) false new) as (λ _. IsTrue (is_node d old x)) [
+  | inr new ↦ (elim (or_cases (same_node (Child k.name) x) false new) as (λ _. IsTrue (is_node d old x)) [
     | inl same ↦ absurd (apart (sym (same_node_exact (Child k.name) x same)))
     | inr nothing ↦ never nothing
   ])
@@ -103,7 +103,7 @@ IsInside rows p new seen y = IsTrue (is_static y) ⊎ IsSeen rows p new seen y
 -- the node of a declared child, or of the component itself, is none of a child of a collection
 static_named : (c : ChildName) (ks : List DeclaredChild) → IsTrue (list_any (λ n. same_node n (Child c)) (map static_node ks)) → IsTrue (is_static (Child c))
 static_named c [] any = never any
-static_named c (k ∷ ks) any = elim (or_split (same_child (static_name k.name) c) (list_any (λ n. same_node n (Child c)) (map static_node ks)) any) [
+static_named c (k ∷ ks) any = elim (or_cases (same_child (static_name k.name) c) (list_any (λ n. same_node n (Child c)) (map static_node ks)) any) [
   | inl here ↦ subst (λ n. IsTrue (is_none n.coll)) (same_child_exact (static_name k.name) c here) refl
   | inr later ↦ static_named c ks later
 ]
@@ -148,7 +148,7 @@ module _ (rows : List Row) (next p : ℕ) (d : Decl) (new : ChildName) (gives : 
   past_inside c coll past node =
       let other : IsTrue (not (same_child c new)) = first_so (not (same_child c new)) (option_map_or (is_in_set seen) (child_of rows p c) true) past in
       let before : IsTrue (is_node d (dynamic_children rows p) (Child c)) = other_node d (dynamic_children rows p) It (Child c) (static_of (Child c) other) node in
-      let parts : IsTrue (list_any (λ n. same_node n (Child c)) (Own ∷ map static_node d.children)) ⊎ IsTrue (list_any (λ n. same_node n (Child c)) (map dynamic_node (dynamic_children rows p))) = or_split (list_any (λ n. same_node n (Child c)) (Own ∷ map static_node d.children)) (list_any (λ n. same_node n (Child c)) (map dynamic_node (dynamic_children rows p)))
+      let parts : IsTrue (list_any (λ n. same_node n (Child c)) (Own ∷ map static_node d.children)) ⊎ IsTrue (list_any (λ n. same_node n (Child c)) (map dynamic_node (dynamic_children rows p))) = or_cases (list_any (λ n. same_node n (Child c)) (Own ∷ map static_node d.children)) (list_any (λ n. same_node n (Child c)) (map dynamic_node (dynamic_children rows p)))
       (sym (list_any-append (λ n. same_node n (Child c)) (Own ∷ map static_node d.children) (map dynamic_node (dynamic_children rows p))) ∙ before) in
       elim parts [
         | inl static ↦ inl (static_named c d.children static)
@@ -202,7 +202,7 @@ module _ (rows : List Row) (next p : ℕ) (d : Decl) (new : ChildName) (gives : 
   -- the sources of a child by what was there before
   before_parts : (c : ChildName) (y : Node) → IsTrue (list_any (is_from_node y) (sources_of d old (Child c))) → IsTrue (is_static y) ⊎ IsTrue (strong_from y (gives_of old c))
   before_parts c y any =
-      elim (or_split (strong_from y (offers_to d c)) (strong_from y (gives_of old c)) (sym (any_kept (is_from_node y) (λ (g : Give). g.from) (λ g. is_strong g.dependency) (offers_to d c) (gives_of old c)) ∙ any)) [
+      elim (or_cases (strong_from y (offers_to d c)) (strong_from y (gives_of old c)) (sym (any_kept (is_from_node y) (λ (g : Give). g.from) (λ g. is_strong g.dependency) (offers_to d c) (gives_of old c)) ∙ any)) [
         | inl offered ↦ inl (offered_static c y offered)
         | inr given ↦ inr given
       ]
@@ -212,7 +212,7 @@ module _ (rows : List Row) (next p : ℕ) (d : Decl) (new : ChildName) (gives : 
   from_new y edge =
       let any : IsTrue (list_any (is_from_node y) (sources_of d old (Child new) ++ map (λ g. g.from) (filter (λ g. is_strong g.dependency) gives))) =
       subst (λ l. IsTrue (list_any (is_from_node y) l)) (given_same d old It) (comes d (old ++ It ∷ []) (Child new) y edge) in
-      elim (or_split (list_any (is_from_node y) (sources_of d old (Child new))) (list_any (is_from_node y) (map (λ g. g.from) (filter (λ g. is_strong g.dependency) gives)))
+      elim (or_cases (list_any (is_from_node y) (sources_of d old (Child new))) (list_any (is_from_node y) (map (λ g. g.from) (filter (λ g. is_strong g.dependency) gives)))
       (sym (list_any-append (is_from_node y) (sources_of d old (Child new)) (map (λ g. g.from) (filter (λ g. is_strong g.dependency) gives))) ∙ any)) [
         | inl before ↦ elim (before_parts new y before) [
           | inl static ↦ inl static

@@ -2,22 +2,23 @@
 use Rattle.std.proofs.Common.{◌≡◌, ℕ, ◌<◌, List, [], ◌∷◌, ◌++◌, Bool, true, false, cond, not, ◌&&◌, ◌||◌, ◌==◌, true≢false, Option, Some, None, IsTrue, is_some, find, map, option_map, option_and_then, refl, sym, ◌∙◌, ap, subst, arith, inl, inr}
 use Rattle.std.specs.List.{list_any, cons_option}
 use Rattle.std.specs.Option.{option_eq}
-use Rattle.std.proofs.lemmas.Bool.{eq-eqb, ne_eqb, and_from as and_pair, not-true}
+use Rattle.std.proofs.lemmas.Bool.{eq-eqb, ne_eqb, and_from as and_pair, not-true, or_cases}
 use Rattle.std.proofs.lemmas.List.Folds.{list_any-append}
 use Rattle.std.specs.Cmp.{first_so, second_so}
 use Rattle.cm_names.specs.declared.child.ChildName.{ChildName}
+use Rattle.cm_facts.proofs.Options.{option_eq_some}
 use Rattle.cm_decl.specs.declared.rows.Give.{Give}
 use Rattle.cm_decl.specs.declared.node.DynChild.{DynChild}
 use Rattle.cm_decl.specs.declared.node.Node.TheVariants.{Child}
 use Rattle.cm_decl.specs.Same.{same_child, same_node}
 use Rattle.cm_decl.specs.Graph.{dynamic_node, gives_of}
-use Rattle.cm_decl.proofs.Sameness.{or_split, never, same_child_exact, same_node-refl}
+use Rattle.cm_decl.proofs.Sameness.{never, same_child_exact, same_node-refl}
 use Rattle.cm_world.specs.declared.row.Row.{Row}
 use Rattle.cm_world.specs.Rows.{row_of, child_of, has_parent, has_name}
 use Rattle.cm_world.specs.Sound.{IncarnationsIncrease, IsOrderly}
 use Rattle.cm_world.specs.Create.{dynamic_by, dynamic_of, dynamic_children}
 use Rattle.cm_world.proofs.trees.Finding.{some_same, none_some, find-passes}
-use Rattle.cm_world.proofs.trees.Walks.{find-lives, parent_is}
+use Rattle.cm_world.proofs.trees.Walks.{find-lives}
 use Rattle.cm_walk.proofs.ways.Standing.{find_some}
 
 -- ---- children by their name
@@ -86,7 +87,7 @@ kin_of p next c q r rs None e increasing later any = kin_later next p c q r rs i
 kin_of p next c q r rs (Some n) e increasing later any = by (has_parent p r && is_some n.coll && not r.doomed) refl any where
   by : (t : Bool) → (has_parent p r && is_some n.coll && not r.doomed) ≡ t → IsTrue (has_one (λ k. q k.gives) c (cons_option (cond t (Some (record { name = n; gives = r.gives })) None) (dynamic_children rs p))) → IsKin (r ∷ rs) p c q
   by false f some = kin_later next p c q r rs increasing (later some)
-  by true f some = elim (or_split (same_child n c && q r.gives) (has_one (λ k. q k.gives) c (dynamic_children rs p)) some) [
+  by true f some = elim (or_cases (same_child n c && q r.gives) (has_one (λ k. q k.gives) c (dynamic_children rs p)) some) [
     | inl here ↦ kin_here next p c q r rs
         (first_so (has_parent p r) (is_some n.coll) (first_so (has_parent p r && is_some n.coll) (not r.doomed) f))
         (e ∙ ap Some (same_child_exact n c (first_so (same_child n c) (q r.gives) here)))
@@ -129,7 +130,7 @@ named rows next p c q orderly any =
     let same : first.0.inc ≡ it.row.inc =
     orderly.one_name first.0.inc it.row.inc first.0 it.row lives it.lives
     (not-true first.0.doomed (second_so (has_parent p first.0 && has_name c first.0) (not first.0.doomed) also)) it.kept
-    (parent_is p first.0.parent (first_so (has_parent p first.0) (has_name c first.0) both) ∙ sym (parent_is p it.row.parent it.parent))
+    (option_eq_some first.0.parent p (first_so (has_parent p first.0) (has_name c first.0) both) ∙ sym (option_eq_some it.row.parent p it.parent))
     (named_by first.0.name c (second_so (has_parent p first.0) (has_name c first.0) both) ∙ sym it.name) in
     record {
       row = it.row;

@@ -3,7 +3,7 @@ use Rattle.std.proofs.Common.{◌≡◌, ℕ, List, [], ◌∷◌, ◌++◌, Boo
 use Rattle.std.specs.List.{list_any, list_all}
 use Rattle.std.specs.Option.{option_eq}
 use Rattle.std.specs.Str.{bytes_eq}
-use Rattle.std.proofs.lemmas.Bool.{and_from as and_pair}
+use Rattle.std.proofs.lemmas.Bool.{and_from as and_pair, or_cases}
 use Rattle.std.specs.Cmp.{first_so, second_so}
 use Rattle.cm_names.specs.declared.child.ChildName.{ChildName}
 use Rattle.cm_decl.specs.declared.decl.Decl.{Decl}
@@ -15,7 +15,7 @@ use Rattle.cm_decl.specs.declared.node.Node.{Node}
 use Rattle.cm_decl.specs.declared.node.Node.TheVariants.{Own, Child}
 use Rattle.cm_decl.specs.Same.{same_node}
 use Rattle.cm_decl.specs.Graph.{is_strong, is_from_child, is_from_node, target_of, offers_to, own_sources}
-use Rattle.cm_decl.proofs.Sameness.{or_split, never, same_node_exact}
+use Rattle.cm_decl.proofs.Sameness.{never, same_node_exact}
 use Rattle.cm_dynamic.specs.Apart.{is_from_created, is_plain_give, is_plain_use, NoneOfKind}
 
 -- ---- lists
@@ -44,7 +44,7 @@ pub one_kept : {A B : Type 0} (q : B → Bool) (f : A → B) (t s : A → Bool) 
 one_kept q f t s [] any all = never any
 one_kept q f t s (x ∷ xs) any all = by (t x) refl (λ later. one_kept q f t s xs later (second_so (s x) (list_all s xs) all)) where
   by : (b : Bool) → t x ≡ b → (IsTrue (list_any q (map f (filter t xs))) → IsKept q f t s) → IsKept q f t s
-  by true e rest = elim (or_split (q (f x)) (list_any q (map f (filter t xs))) (rw e at any)) [
+  by true e rest = elim (or_cases (q (f x)) (list_any q (map f (filter t xs))) (rw e at any)) [
     | inl here ↦ record { item = x; here = here; passes = e; all = first_so (s x) (list_all s xs) all }
     | inr later ↦ rest later
   ]

@@ -4,7 +4,7 @@ use Rattle.std.specs.List.{list_all, list_any}
 use Rattle.std.specs.Option.{option_map_or}
 use Rattle.std.specs.Ordering.{is_eq, nat_cmp}
 use Rattle.std.specs.BTreeSet.{BTreeSet}
-use Rattle.std.proofs.lemmas.Bool.{and_from as and_pair, or_left, or_right}
+use Rattle.std.proofs.lemmas.Bool.{and_from as and_pair, or_left, or_right, or_cases}
 use Rattle.std.proofs.lemmas.List.{take_all}
 use Rattle.std.proofs.lemmas.List.Folds.{list_all_more}
 use Rattle.std.specs.Cmp.{first_so, second_so}
@@ -13,7 +13,7 @@ use Rattle.cm_decl.specs.declared.origin.Origin.{Origin}
 use Rattle.cm_decl.specs.declared.origin.Origin.TheVariants as origin
 use Rattle.cm_decl.specs.declared.rows.Give.{Give}
 use Rattle.cm_decl.specs.Same.{same_child}
-use Rattle.cm_decl.proofs.Sameness.{or_split, never}
+use Rattle.cm_decl.proofs.Sameness.{never}
 use Rattle.cm_world.specs.declared.row.Row.{Row}
 use Rattle.cm_world.specs.Rows.{row_of, child_of}
 use Rattle.cm_world.proofs.trees.Finding.{some_same, none_some}
@@ -93,7 +93,7 @@ module _ (rows : List Row) (p : ℕ) (new : ChildName) (seen ahead more further 
   past_from_still origin.Void past = refl
 
   past_still : (g : Give) → IsTrue (leads_past rows p new seen g) → IsTrue (leads_past rows p new more g)
-  past_still g past = elim (or_split (not (binds_created g.dependency g.from)) (is_past_from rows p new seen g.from) past) [
+  past_still g past = elim (or_cases (not (binds_created g.dependency g.from)) (is_past_from rows p new seen g.from) past) [
     | inl unbound ↦ or_left (not (binds_created g.dependency g.from)) (is_past_from rows p new more g.from) unbound
     | inr from ↦ or_right (not (binds_created g.dependency g.from)) (is_past_from rows p new more g.from) (past_from_still g.from from)
   ]

@@ -1,9 +1,10 @@
 -- From lanes to passes and gates, and back.
-use Rattle.std.proofs.Common.{zero, suc, ◌≡◌, ℕ, ◌+◌, ◌<◌, List, [], ◌∷◌, ◌++◌, All, map, flat_map, take, drop, length, get_or, Bool, true, false, Option, Some, None, IfSome, inl, inr, refl, sym, ap, ◌∙◌, subst, append-nil, arith}
+use Rattle.std.proofs.Common.{suc, ◌≡◌, ℕ, ◌+◌, ◌<◌, List, [], ◌∷◌, ◌++◌, All, map, flat_map, length, get_or, Bool, true, false, Option, Some, None, IfSome, inl, inr, refl, sym, ap, ◌∙◌, subst, arith}
 use Rattle.std.specs.List.{range_with_len, slice_get}
-use Rattle.std.proofs.lemmas.List.{length-map, get_or-map, take_all, drop_all}
+use Rattle.std.proofs.lemmas.List.{length-map, get_or-map}
 use Rattle.std.proofs.lemmas.List.FromFn.{get_or-range_with_len, length-range_with_len}
 use Rattle.std.proofs.lemmas.Option.{slice_get-get_or, slice_get_within, get_or_from_slice_get}
+use Rattle.cm_facts.proofs.Lists.{length_by_map, slice_get_some}
 use Rattle.cm_turn.specs.Passes.{LockView}
 use Rattle.cm_world.specs.declared.frame.Frame.{Frame}
 use Rattle.cm_world.specs.declared.reply.Entry.{Entry}
@@ -27,11 +28,6 @@ use Rattle.cm_lanes.specs.Phases.{told_to, AreLanes, lane_frames, frame_in_lane,
 use Rattle.cm_lanes.specs.LaneParts.{AreLaneParts, HasPassIn, IsFreshLane}
 use Rattle.cm_lanes.specs.Merge.{Queue}
 
--- a slice that took the place of a whole vector
-pub whole_slice : {A : Type 0} (xs ys : List A) (n : ℕ) → n ≡ length xs → length ys ≡ length xs → take n (ys ++ drop (length ys) xs) ≡ ys
-whole_slice xs ys n is_n long =
-    ap (λ (l : List _). take n (ys ++ l)) (drop_all (length ys) xs (omega (arith, long))) ∙ ap (take n) (append-nil ys) ∙ take_all n ys (omega (arith, is_n, long))
-
 -- phases over other frames
 phase_same : (f g : ℕ → Frame) (a : List AnsweredLine) (h₀ h₁ : List Entry) → ((c : ℕ) → c < 16 → f c ≡ g c) → IsPhase f a h₀ h₁ → IsPhase g a h₀ h₁
 phase_same f g a h₀ h₁ same is = record { grows = is.grows; lanes = λ c lt. subst (λ (x : Frame). PerformsLines x c (answers_of c a) h₀ h₁) (same c lt) (is.lanes c lt) }
@@ -44,9 +40,6 @@ phases_same f g (a ∷ rest_of) h₀ h₁ same (one_first {h₁ = h} first rest)
 at_map : {A B : Type 0} (f : A → B) (xs : List A) (ys : List B) (k : ℕ) (d : A) (e : B) → map f xs ≡ ys → k < length xs → f (get_or xs k d) ≡ get_or ys k e
 at_map f xs ys k d e is lt = sym (get_or-map f xs k d e lt) ∙ ap (λ (l : List _). get_or l k e) is
 
-as_long : {A B C : Type 0} (f : A → C) (g : B → C) (xs : List A) (ys : List B) → map f xs ≡ map g ys → length xs ≡ length ys
-as_long f g xs ys is = sym (length-map xs f) ∙ ap (λ (l : List _). length l) is ∙ length-map ys g
-
 -- one of the lanes
 pub some_lane : {G : Type 0} (lanes : List (Lane G)) → length lanes ≡ 16 → Lane G
 some_lane [] e = absurd (cc e)
@@ -56,7 +49,7 @@ module _ {G : Type 0} where
   -- the pass of the lane at a place
   pass_at : (lanes : List (Lane G)) (passes : List RealmPass) (k : ℕ) (e : Lane G) (d : RealmPass) → map (λ l. l.pass) lanes ≡ map Some passes → k < length passes → (get_or lanes k e).pass ≡ Some (get_or passes k d)
   pass_at lanes passes k e d is lt =
-      let long = as_long (λ (l : Lane G). l.pass) Some lanes passes is in
+      let long = length_by_map (λ (l : Lane G). l.pass) Some lanes passes is in
       at_map (λ (l : Lane G). l.pass) lanes (map Some passes) k e (Some d) is (omega (arith, long)) ∙ get_or-map Some passes k d (Some d) lt
 
   -- the lanes that are made of the sixteen passes
@@ -72,7 +65,7 @@ module _ {G : Type 0} where
     };
   } where
     long : length lanes ≡ length (p ∷ ps)
-    long = as_long (λ (l : Lane G). l.pass) Some lanes (p ∷ ps) made
+    long = length_by_map (λ (l : Lane G). l.pass) Some lanes (p ∷ ps) made
 
     count : length (p ∷ ps) ≡ 16
     count = sym (length-map (p ∷ ps) (λ (p : RealmPass). p.caller)) ∙ ap (λ (l : List ℕ). length l) is.callers ∙ length-range_with_len 0 16
@@ -96,9 +89,9 @@ module _ {G : Type 0} (log_of : G → Option (List GateCall)) (faults_of : G →
 
   -- the frames of the lanes are those of the passes
   frames_same : (passes : List RealmPass) → length xs ≡ 16 → map (λ l. l.pass) xs ≡ map Some passes → (c : ℕ) → c < 16 → lane_frames xs c ≡ frame_at passes c
-  frames_same [] count made c lt = absurd (cc (sym count ∙ as_long (λ (l : Lane G). l.pass) Some xs [] made))
+  frames_same [] count made c lt = absurd (cc (sym count ∙ length_by_map (λ (l : Lane G). l.pass) Some xs [] made))
   frames_same (p ∷ ps) count made c lt =
-      let long = as_long (λ (l : Lane G). l.pass) Some xs (p ∷ ps) made in
+      let long = length_by_map (λ (l : Lane G). l.pass) Some xs (p ∷ ps) made in
       let b = is.begins in
       frame_here xs c p (some_lane xs count) (omega (arith, count)) (pass_at xs (p ∷ ps) c (some_lane xs count) p made (omega (arith, count, long)))
       ∙ ap (λ (o : Option RealmPass). elim o as (λ _. Frame) [ None ↦ no_frame | Some p ↦ frame_of p ]) (sym (slice_get-get_or (p ∷ ps) c p (omega (arith, count, long)))) where
@@ -108,20 +101,20 @@ module _ {G : Type 0} (log_of : G → Option (List GateCall)) (faults_of : G →
   -- the histories that the passes go on to
   begin_all : (passes : List RealmPass) → length xs ≡ 16 → map (λ l. l.pass) xs ≡ map Some passes → Lane G → All (ExtendsPass is.first) passes
   begin_all passes count made e k d lt =
-      let long = as_long (λ (l : Lane G). l.pass) Some xs passes made in
+      let long = length_by_map (λ (l : Lane G). l.pass) Some xs passes made in
       let b = is.begins k e (omega (arith, count, long)) in
       subst (ExtendsPass is.first) (some_same _ _ (sym b.there ∙ pass_at xs passes k e d made lt)) b.goes_on
 
   met_all : (passes : List RealmPass) → length xs ≡ 16 → map (λ l. l.pass) ys ≡ map Some passes → Lane G → All (λ (q : RealmPass). q.seen ≡ is.last) passes
   met_all passes count made e k d lt =
-      let long = as_long (λ (l : Lane G). l.pass) Some ys passes made in
+      let long = length_by_map (λ (l : Lane G). l.pass) Some ys passes made in
       let r = is.each k e (omega (arith, count, is.long, long)) in
       ap (λ (q : RealmPass). q.seen) (some_same _ _ (sym (pass_at ys passes k e d made lt) ∙ r.now)) ∙ r.seen
 
   -- the lane's pass and gates as they stand in lists
   kept_at : (old new : List RealmPass) (gates₀ gates₁ : List G) (e : Lane G) (k : ℕ) (p q : RealmPass) (g h : G) → length xs ≡ 16 → map (λ l. l.pass) xs ≡ map Some old → map (λ l. l.pass) ys ≡ map Some new → map (λ l. l.gates) xs ≡ gates₀ → map (λ l. l.gates) ys ≡ gates₁ → slice_get old k ≡ Some p → slice_get new k ≡ Some q → slice_get gates₀ k ≡ Some g → slice_get gates₁ k ≡ Some h → KeepsPass manifests p q (gates_view log_of faults_of g) (gates_view log_of faults_of h)
   kept_at old new gates₀ gates₁ e k p q g h count made back gates_made gates_back p_is q_is g_is h_is =
-      let long = as_long (λ (l : Lane G). l.pass) Some xs old made in
+      let long = length_by_map (λ (l : Lane G). l.pass) Some xs old made in
       let lt : k < length old = slice_get_within old k p p_is in
       let lt_new : k < length new = slice_get_within new k q q_is in
       let r = is.each k e (omega (arith, count, long, lt)) in
@@ -145,7 +138,7 @@ module _ {G : Type 0} (log_of : G → Option (List GateCall)) (faults_of : G →
     performed = phases_same (lane_frames xs) (frame_at passes) is.answered is.first is.last (frames_same passes count made) is.performed;
     met = met_all back.passes count back_made e;
     kept = record {
-      passes = sym (as_long (λ (l : Lane G). l.pass) Some ys back.passes back_made) ∙ is.long ∙ as_long (λ (l : Lane G). l.pass) Some xs passes made;
+      passes = sym (length_by_map (λ (l : Lane G). l.pass) Some ys back.passes back_made) ∙ is.long ∙ length_by_map (λ (l : Lane G). l.pass) Some xs passes made;
       gates = sym (ap (λ (l : List G). length l) back_gates) ∙ length-map ys (λ (l : Lane G). l.gates) ∙ is.long ∙ sym (length-map xs (λ (l : Lane G). l.gates)) ∙ ap (λ (l : List G). length l) gates_made;
       each = λ k p q g h p_is q_is g_is h_is. kept_at passes back.passes gates back.gates e k p q g h count made back_made gates_made back_gates p_is q_is g_is h_is;
     };
@@ -158,11 +151,6 @@ said_either true said all gone there = subst (λ (o : Option (List Said)). IfSom
 said_either false said all gone there = there refl
 
 -- ---- what else holds of the passes that come back
-
-there_at : {A : Type 0} (xs : List A) (k : ℕ) → k < length xs → (x : A) × (slice_get xs k ≡ Some x)
-there_at [] k lt = absurd (omega (arith, lt))
-there_at (x ∷ xs) zero lt = (x, refl)
-there_at (x ∷ xs) (suc k) lt = there_at xs k (grind (arith, lt))
 
 map_same : {A B : Type 0} (f : A → B) (xs ys : List A) → length ys ≡ length xs → ((k : ℕ) (d : A) → k < length xs → f (get_or ys k d) ≡ f (get_or xs k d)) → map f ys ≡ map f xs
 map_same f [] [] long same = refl
@@ -182,8 +170,8 @@ module _ {G : Type 0} (log_of : G → Option (List GateCall)) (faults_of : G →
 
   kept_pair : KeepsEach log_of faults_of manifests old new gates₀ gates₁ → length gates₀ ≡ length old → (k : ℕ) (d : RealmPass) → k < length old → KeptAt k d
   kept_pair is many k d lt =
-      let g = there_at gates₀ k (omega (arith, many, lt)) in
-      let h = there_at gates₁ k (omega (arith, is.gates, many, lt)) in
+      let g = slice_get_some gates₀ k (omega (arith, many, lt)) in
+      let h = slice_get_some gates₁ k (omega (arith, is.gates, many, lt)) in
       record {
         g = gates_view log_of faults_of g.0;
         h = gates_view log_of faults_of h.0;

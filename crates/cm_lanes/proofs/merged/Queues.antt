@@ -2,6 +2,7 @@
 use Rattle.std.proofs.Common.{◌≡◌, ◌≢◌, ℕ, ◌+◌, ◌<◌, ◌≤◌, ◌==◌, List, [], ◌∷◌, ◌++◌, map, flat_map, take, drop, length, get_or, Bool, true, false, Some, None, Err, refl, sym, ap, ◌∙◌, subst, append-nil, append_assoc, arith, eqb-true}
 use Rattle.std.proofs.lemmas.List.{map-append, take_more, drop_more, take_all, drop_all, get_or-map, length-map}
 use Rattle.std.proofs.lemmas.Grind.{flat_map-append}
+use Rattle.cm_facts.proofs.Numbers.{eq_self}
 use Rattle.cm_world.specs.declared.answer.Refusal.TheVariants as refusal
 use Rattle.cm_command.specs.declared.script.Line.{Line}
 use Rattle.cm_lanes.specs.declared.said.Said.{Said}
@@ -9,7 +10,7 @@ use Rattle.cm_lanes.specs.Script.{AnsweredLine, answered_lines, answers_of}
 use Rattle.cm_lanes.specs.ScriptInside.{said_of}
 use Rattle.cm_lanes.specs.Phases.{told_to}
 use Rattle.cm_lanes.specs.Merge.{Queue, TakesFirst, QueuesStartWith}
-use Rattle.cm_lanes.proofs.merged.Weaving.{same_lane, answers_first}
+use Rattle.cm_lanes.proofs.merged.Weaving.{answers_first}
 
 -- the first n of these answers are moved
 pub record Moves (n : ℕ) (answered : List AnsweredLine) (behind : ℕ → List Said) (queues : List Queue) (old all : List Said) : Type 0 where
@@ -38,7 +39,7 @@ next_answer lines answered n l lines_are lt is =
 -- what is left for the lane of the next line, and for another
 left_here : (c : ℕ) (a : AnsweredLine) (rest : List AnsweredLine) (behind : List Said) → a.line.lane ≡ c → map said_of (answers_of c (a ∷ rest)) ++ behind ≡ said_of a ∷ (map said_of (answers_of c rest) ++ behind)
 left_here c a rest behind lane =
-    let here : (a.line.lane == c) ≡ true = ap (λ (n : ℕ). n == c) lane ∙ same_lane c in
+    let here : (a.line.lane == c) ≡ true = ap (λ (n : ℕ). n == c) lane ∙ eq_self c in
     ap (λ (xs : List AnsweredLine). map said_of xs ++ behind) (answers_first c a rest true here)
 
 not_same : (n c : ℕ) (b : Bool) → (n == c) ≡ b → n ≢ c → b ≡ false
@@ -49,7 +50,7 @@ left_there : (c : ℕ) (a : AnsweredLine) (rest : List AnsweredLine) → a.line.
 left_there c a rest other = answers_first c a rest false (not_same a.line.lane c (a.line.lane == c) refl other)
 
 differ : (n c : ℕ) → (n == c) ≡ false → n ≢ c
-differ n c is e = absurd (cc (sym is ∙ ap (λ (m : ℕ). n == m) (sym e) ∙ same_lane n))
+differ n c is e = absurd (cc (sym is ∙ ap (λ (m : ℕ). n == m) (sym e) ∙ eq_self n))
 
 -- one of the queues
 pub some_queue : (queues : List Queue) → length queues ≡ 16 → Queue

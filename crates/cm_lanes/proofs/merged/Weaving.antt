@@ -1,5 +1,6 @@
 -- The lanes' answers, merged together in the order of the lines.
 use Rattle.std.proofs.Common.{◌≡◌, ℕ, ◌<◌, ◌==◌, List, [], ◌∷◌, All, drop, cond, Bool, true, false, refl, sym, ap, ◌∙◌, subst, arith, rules, suc, eqb-true}
+use Rattle.cm_facts.proofs.Numbers.{eq_self}
 use Rattle.cm_command.specs.declared.script.Line.{Line}
 use Rattle.cm_lanes.specs.Script.{AnsweredLine, answered_lines, answers_of}
 use Rattle.cm_lanes.specs.ScriptInside.{lines_of}
@@ -43,9 +44,6 @@ lines_first c l ls b is = ap (λ (t : Bool). cond t (l ∷ lines_of c ls) (lines
 pub answers_first : (c : ℕ) (x : AnsweredLine) (xs : List AnsweredLine) (b : Bool) → (x.line.lane == c) ≡ b → answers_of c (x ∷ xs) ≡ cond b (x ∷ answers_of c xs) (answers_of c xs)
 answers_first c x xs b is = ap (λ (t : Bool). cond t (x ∷ answers_of c xs) (answers_of c xs)) is
 
-pub same_lane : (n : ℕ) → (n == n) ≡ true
-same_lane n = search rules
-
 left_parts : (l : Line) (ls : List Line) (each : ℕ → List AnsweredLine) (c : ℕ) (b : Bool) → (l.lane == c) ≡ b → answered_lines (each c) ≡ lines_of c (l ∷ ls) → answered_lines (left l each c) ≡ lines_of c ls
 unfolding left
 left_parts l ls each c true is parts =
@@ -69,7 +67,7 @@ pub merge : (lines : List Line) (each : ℕ → List AnsweredLine) → LaneParts
 merge [] each is = record { answered = []; lines_are = refl; lanes_are = λ c lt. sym (none_of (each c) (is.parts c lt)) }
 merge (l ∷ ls) each is =
     let lane : l.lane < 16 = is.lanes 0 l (grind arith) in
-    let first = first_of l (lines_of l.lane ls) (each l.lane) (is.parts l.lane lane ∙ lines_first l.lane l ls true (same_lane l.lane)) in
+    let first = first_of l (lines_of l.lane ls) (each l.lane) (is.parts l.lane lane ∙ lines_first l.lane l ls true (eq_self l.lane)) in
     let rest = merge ls (left l each) (record {
       lanes = λ k d lt. is.lanes (suc k) d (grind (arith, lt));
       parts = λ c lt. left_parts l ls each c (l.lane == c) refl (is.parts c lt);

@@ -1,6 +1,8 @@
 -- The row at which an action begins, and its beginner.
-use Rattle.std.proofs.Common.{◌≡◌, ℕ, ◌+◌, ◌∷◌, ◌++◌, [], ◌==◌, List, Bool, true, false, cond, true≢false, length, Option, Some, None, is_some, refl, sym, ◌∙◌, ap, subst, arith, IsTrue}
+use Rattle.std.proofs.Common.{◌≡◌, ℕ, ◌+◌, ◌∷◌, ◌++◌, [], ◌==◌, List, Bool, true, false, cond, length, Option, Some, None, refl, sym, ◌∙◌, ap, subst, arith, IsTrue}
 use Rattle.std.specs.Cmp.{unsigned_Decides}
+use Rattle.cm_facts.proofs.Options.{is_some_false}
+use Rattle.cm_facts.proofs.Lists.{find_last}
 use Rattle.cm_world.specs.declared.row.Row.{Row}
 use Rattle.cm_world.specs.declared.action.Act.{Act}
 use Rattle.cm_world.specs.declared.action.ActKind.{ActKind}
@@ -19,7 +21,7 @@ use Rattle.cm_world.specs.Step.{MayEnd, PicksOn}
 use Rattle.cm_world.specs.After.{new_act, with_action, after}
 use Rattle.cm_world.proofs.trees.Finding.{some_same}
 use Rattle.cm_laws.specs.Story.{entry_of}
-use Rattle.cm_laws.proofs.actions.Tasks.{find_last, unused}
+use Rattle.cm_laws.proofs.actions.Tasks.{unused}
 use Rattle.cm_laws.proofs.actions.Numbers.{IsCounted}
 
 -- no action is pending at it, it isn't closed, one that is to be resolved has no declaration, and this is the work there
@@ -31,12 +33,8 @@ pub record IsIdle (rows : List Row) (next : ℕ) (kind : ActKind) (work : Work) 
   pub unresolved : kind ≡ Resolve → row.decl ≡ None
   pub work_is : work_of rows next kind row ≡ work
 
-none_by : {A : Type 0} (o : Option A) → is_some o ≡ false → o ≡ None
-none_by None e = refl
-none_by (Some x) e = absurd (true≢false e)
-
 undeclared : (kind : ActKind) (r : Row) → is_so kind r ≡ false → kind ≡ Resolve → r.decl ≡ None
-undeclared kind r so same = none_by r.decl (subst (λ k. is_so k r ≡ false) same so)
+undeclared kind r so same = is_some_false r.decl (subst (λ k. is_so k r ≡ false) same so)
 
 module _ (rows : List Row) (next i : ℕ) (kind : ActKind) (work : Work) where
   shut_by : (b c : Bool) (i j : ℕ) (v : Work) → cond b (Shut i) (cond c (Need j) (Begun v)) ≡ Begun work → v ≡ work

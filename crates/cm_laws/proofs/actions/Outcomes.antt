@@ -3,6 +3,7 @@ use Rattle.std.proofs.Common.{◌≡◌, ℕ, ◌+◌, ◌==◌, List, [], ◌�
 use Rattle.std.specs.Prelude.{Contains}
 use Rattle.std.specs.Cmp.{unsigned_Decides}
 use Rattle.std.proofs.lemmas.List.Elements.{Contains-append_left, Contains-push, Contains-push_cases}
+use Rattle.cm_facts.proofs.Lists.{find_last, Contains_none}
 use Rattle.cm_world.specs.declared.action.Act.{Act}
 use Rattle.cm_world.specs.declared.action.ActKind.{ActKind}
 use Rattle.cm_world.specs.declared.action.ActKind.TheVariants.{Stop}
@@ -24,7 +25,7 @@ use Rattle.cm_world.specs.Legal.{IsStep, Legal, replay}
 use Rattle.cm_world.proofs.trees.Finding.{none_some, some_same, find-passes}
 use Rattle.cm_laws.specs.Lasting.{begun_by, joined_by, ended_by, awaited_by, IsBegun, IsEnded, IsAwaited, KeepsOutcomes}
 use Rattle.cm_laws.specs.LastingInside.{OutcomesAreOne}
-use Rattle.cm_laws.proofs.actions.Tasks.{by_test, find_left, find_last, find_split, only_by, edit_at, edit_other, unused}
+use Rattle.cm_laws.proofs.actions.Tasks.{by_test, find_left, find_split, only_by, edit_at, edit_other, unused}
 use Rattle.cm_laws.proofs.actions.Numbers.{IsCounted, counted_after, counted_history}
 use Rattle.cm_laws.proofs.actions.Begun.{begun_action}
 use Rattle.cm_laws.proofs.entries.Answered.{is_plain, begin_passes, plain_reply, IsPlainOrOpened, use_kind, exposed_kind}
@@ -134,13 +135,10 @@ record Remembers (es : List Entry) (acts : List Act) : Type 0 where
   begun : (a : ℕ) (y : Act) → act_of acts a ≡ Some y → IsBegun es a y.by
   ended : (a : ℕ) (o : Outcome) → outcome_of acts a ≡ Some o → IsEnded es a o
 
-in_none : (x : Entry) → Contains [] x → ⊥
-in_none x h = let lt = h.1 in absurd (omega arith)
-
 nothing_begun : Remembers [] []
 nothing_begun = record {
-  known = λ a x h e. absurd (in_none x h);
-  told = λ a x h e. absurd (in_none x h);
+  known = λ a x h e. absurd (Contains_none x h);
+  told = λ a x h e. absurd (Contains_none x h);
   begun = λ a y e. absurd (none_some y e);
   ended = λ a o e. absurd (none_some o e);
 }

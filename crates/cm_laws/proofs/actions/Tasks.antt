@@ -3,6 +3,7 @@ use Rattle.std.proofs.Common.{◌≡◌, ℕ, ◌+◌, ◌<◌, ◌≤◌, ◌==
 use Rattle.std.specs.Cmp.{unsigned_Decides}
 use Rattle.std.specs.Option.{option_or}
 use Rattle.std.proofs.lemmas.List.Folds.{find-append}
+use Rattle.cm_facts.proofs.Lists.{find_last}
 use Rattle.cm_decl.specs.declared.rows.Child.{Child}
 use Rattle.cm_world.specs.declared.row.Row.{Row}
 use Rattle.cm_world.specs.declared.action.Act.{Act}
@@ -27,10 +28,6 @@ by_bool false i j e hits differ = differ (λ same. true≢false (sym ((unsigned_
 pub by_test : {P : Type 0} (i j : ℕ) → (i ≡ j → P) → ((i ≡ j → ⊥) → P) → P
 by_test i j hits differ = by_bool (i == j) i j refl hits differ
 
-unequal_by : (b : Bool) (i j : ℕ) → (i ≡ j → ⊥) → (i == j) ≡ b → b ≡ false
-unequal_by true i j differ e = absurd (differ ((unsigned_Decides i j).0 e))
-unequal_by false i j differ e = refl
-
 either_by : {A : Type 0} (o q : Option A) (z : A) → option_or o q ≡ Some z → (o ≡ Some z) ⊎ (q ≡ Some z)
 either_by None q z e = inr e
 either_by (Some x) q z e = inl e
@@ -41,10 +38,6 @@ find_split p xs ys z e = either_by (find p xs) (find p ys) z (sym (find-append p
 
 pub find_left : {A : Type 0} (p : A → Bool) (xs ys : List A) (z : A) → find p xs ≡ Some z → find p (xs ++ ys) ≡ Some z
 find_left p xs ys z e = find-append p xs ys ∙ ap (λ o. option_or o (find p ys)) e
-
-pub find_last : {A : Type 0} (p : A → Bool) (xs : List A) (y : A) → find p xs ≡ None → p y ≡ true → find p (xs ++ y ∷ []) ≡ Some y
-find_last p xs y none hits =
-    find-append p xs (y ∷ []) ∙ ap (λ o. option_or o (find p (y ∷ []))) none ∙ ap (λ b. cond b (Some y) None) hits
 
 pub only_by : {A : Type 0} (b : Bool) (y z : A) → cond b (Some y) None ≡ Some z → y ≡ z
 only_by true y z e = some_same y z e

@@ -5,6 +5,7 @@ use Rattle.std.specs.Str.{bytes_eq}
 use Rattle.std.specs.Cmp.{unsigned_Decides, first_so}
 use Rattle.std.proofs.lemmas.List.Folds.{list_any-append}
 use Rattle.cm_names.specs.declared.child.ChildName.{ChildName}
+use Rattle.cm_facts.proofs.Lists.{list_any_map}
 use Rattle.cm_decl.specs.declared.decl.Decl.{Decl}
 use Rattle.cm_decl.specs.declared.kind.Kind.{Kind}
 use Rattle.cm_decl.specs.declared.rows.Give.{Give}
@@ -22,7 +23,6 @@ use Rattle.cm_world.specs.NextStation.{is_offer_to, offer_of, give_of, give_or, 
 use Rattle.cm_world.proofs.trees.Finding.{none_some, some_same, find-passes}
 use Rattle.cm_order.specs.Kids.{IsKid}
 use Rattle.cm_order.proofs.trees.Trees.{or_left, or_right, and_pair, eq_some}
-use Rattle.cm_order.proofs.names.Listing.{any_map}
 use Rattle.cm_order.proofs.names.Naming.{kid_not_own}
 use Rattle.cm_order.proofs.names.Edges.{kid_node}
 use Rattle.cm_laws.proofs.levels.Kept.{own_or_kid, kid_sources}
@@ -61,7 +61,7 @@ module _ (q : Origin → Bool) where
   by_offers : (d : Decl) (c : ChildName) (o : Offer) (kind : Kind) (name : List ℕ) → offer_of d c kind name ≡ Some o → IsTrue (passes o.give) → IsTrue (list_any passes (offers_to d c))
   by_offers d c o kind name found given =
       let to : Offer → Bool = λ o. bytes_eq o.to (target_of c) in
-      any_map passes (λ o. o.give) (filter to d.offers) ∙ any_filtered (λ o. passes o.give) to d.offers
+      list_any_map passes (λ o. o.give) (filter to d.offers) ∙ any_filtered (λ o. passes o.give) to d.offers
       ∙ found_any (is_offer_to c kind name) (λ o. to o && passes o.give) d.offers o found
       (and_pair (to o) (passes o.give)
       (first_so (to o) (same_kind o.give.kind kind && bytes_eq o.give.target_name name) (find-passes (is_offer_to c kind name) d.offers o found)) given)
@@ -79,7 +79,7 @@ module _ (q : Origin → Bool) where
   offered_source : (d : Decl) (c : ChildName) (gives : List Give) (kind : Kind) (name : List ℕ) (g : Give) → offered d c gives kind name ≡ Some g → IsTrue (is_strong g.dependency) → IsTrue (q g.from) → IsTrue (list_any q (child_sources d c gives))
   unfolding passes
   offered_source d c gives kind name g gets strong from =
-      any_map q (λ g. g.from) (filter (λ g. is_strong g.dependency) (offers_to d c ++ gives))
+      list_any_map q (λ g. g.from) (filter (λ g. is_strong g.dependency) (offers_to d c ++ gives))
       ∙ any_filtered (λ g. q g.from) (λ g. is_strong g.dependency) (offers_to d c ++ gives)
       ∙ list_any-append passes (offers_to d c) gives
       ∙ by_either d c gives kind name g (offer_of d c kind name) refl gets (strong_given g strong from)
@@ -87,7 +87,7 @@ module _ (q : Origin → Bool) where
   -- and that of what a component uses strongly of a child, among its own
   used_source : (d : Decl) (p : Usage → Bool) (u : Usage) → find p d.uses ≡ Some u → IsTrue (is_strong u.dependency) → IsTrue (is_from_child u.from) → IsTrue (q u.from) → IsTrue (list_any q (own_sources d))
   used_source d p u found strong child from =
-      any_map q (λ u. u.from) (filter (λ u. is_strong u.dependency && is_from_child u.from) d.uses)
+      list_any_map q (λ u. u.from) (filter (λ u. is_strong u.dependency && is_from_child u.from) d.uses)
       ∙ any_filtered (λ u. q u.from) (λ u. is_strong u.dependency && is_from_child u.from) d.uses
       ∙ found_any p (λ u. (is_strong u.dependency && is_from_child u.from) && q u.from) d.uses u found
       (and_pair (is_strong u.dependency && is_from_child u.from) (q u.from) (and_pair (is_strong u.dependency) (is_from_child u.from) strong child) from)

@@ -5,11 +5,13 @@ use Rattle.std.specs.Prelude.{Contains}
 use Rattle.std.specs.List.{list_all}
 use Rattle.std.specs.Option.{IfSome}
 use Rattle.std.specs.Cmp.{unsigned_Decides, first_so, second_so}
-use Rattle.std.proofs.lemmas.List.Elements.{All-contains, Contains-push_cases, Contains-append_cases}
+use Rattle.std.proofs.lemmas.List.Elements.{All-contains, Contains-append_cases}
 use Rattle.std.proofs.lemmas.List.Sums.{AllPass-from_list_all}
 use Rattle.std.proofs.lemmas.List.Folds.{list_all-map}
 use Rattle.std.proofs.lemmas.Bool.{not-true}
 use Rattle.cm_names.specs.declared.moniker.Moniker.{Moniker}
+use Rattle.cm_facts.proofs.Booleans.{true_and_false}
+use Rattle.cm_facts.proofs.Lists.{Contains_one, Contains_none}
 use Rattle.cm_world.specs.declared.row.Row.{Row}
 use Rattle.cm_world.specs.declared.frame.Frame.{Frame}
 use Rattle.cm_world.specs.declared.report.Lost.{Lost}
@@ -34,7 +36,7 @@ use Rattle.cm_world.specs.Sound.{IsOrderly, IsParent}
 use Rattle.cm_world.proofs.trees.Finding.{some_same}
 use Rattle.cm_world.proofs.trees.Histories.{replay-append, replay-push, Legal-split}
 use Rattle.cm_table.proofs.tree.Rows.{lives_below}
-use Rattle.cm_order.proofs.trees.Trees.{climb, or_left, or_right, true_not_false, below_cases, below_lives, below_self}
+use Rattle.cm_order.proofs.trees.Trees.{climb, or_left, or_right, below_cases, below_lives, below_self}
 use Rattle.cm_laws.specs.Destroying.{named_in, asked_of, is_removing, IsDoomed, IsDestroyed, IsPurged, IsShunned, IsForgotten, KeepsGone, LeavesGone}
 use Rattle.cm_laws.specs.DestroyingInside.{DoomedAreDestroyed, DestroyedStayGone}
 use Rattle.cm_laws.proofs.entries.Entries.{of_each_entry}
@@ -116,14 +118,8 @@ dead_after i w e healthy step was = dead_still w (after w e) (goes_after w e ste
 
 -- ---- all entries
 
-in_none : (x : Entry) → Contains [] x → ⊥
-in_none x there = let low : there.0 < 0 = there.1 in absurd (omega arith)
-
-in_first : (e x : Entry) → Contains (e ∷ []) x → e ≡ x
-in_first e x there = ⊎_elim (λ none. absurd (in_none x none)) (λ same. same) (Contains-push_cases [] e x there)
-
 in_cases : (e x : Entry) (es : List Entry) → Contains (e ∷ es) x → (e ≡ x) ⊎ Contains es x
-in_cases e x es there = ⊎_elim (λ first. inl (in_first e x first)) (λ later. inr later) (Contains-append_cases (e ∷ []) es x there)
+in_cases e x es there = ⊎_elim (λ first. inl (Contains_one e x first)) (λ later. inr later) (Contains-append_cases (e ∷ []) es x there)
 
 module _ (P : World → Type 0) (keeps : (w : World) (e : Entry) → IsHealthy w → IsStep w e → P w → P (after w e)) where
   -- what each entry keeps stays so
@@ -134,7 +130,7 @@ module _ (P : World → Type 0) (keeps : (w : World) (e : Entry) → IsHealthy w
 
   -- and is so from an entry on that makes it so
   since : (x : Entry) → ((w : World) → IsHealthy w → IsStep w x → P (after w x)) → (w : World) (es : List Entry) → IsHealthy w → Legal w es → Contains es x → P (replay w es)
-  since x makes w [] healthy legal there = absurd (in_none x there)
+  since x makes w [] healthy legal there = absurd (Contains_none x there)
   since x makes w (e ∷ es) healthy legal there =
       let behind : IsHealthy (after w e) = healthy_after w e healthy legal.0 in
       ⊎_elim (λ same. stays (after w e) es behind legal.1
@@ -255,7 +251,7 @@ purged_dead i top lost e purges purged among w healthy step =
     left_by : IsTrue (is_below w.rows top i) → (o : Option Row) → row_of (others_than w.rows top) i ≡ o → is_some o ≡ false
     left_by below None e = refl
     left_by below (Some s) e =
-        true_not_false (is_below w.rows top i) below (stood w.rows w.next_inc top healthy.sound.orderly i s e).1
+        true_and_false (is_below w.rows top i) below (stood w.rows w.next_inc top healthy.sound.orderly i s e).1
 
 purged_stays : (f : Frame) (es : List Entry) (i : ℕ) → Legal (start f) es → IsPurged es i → IsDead (replay (start f) es) i
 purged_stays f es i legal it =
@@ -332,7 +328,7 @@ gone_named rows next i (reply.Stopping work) low gone there fit = inr refl
 gone_named rows next i (reply.ShutDown j) low gone there fit = inr refl
 gone_named rows next i (reply.Purged lost) low gone there fit = inr refl
 gone_named rows next i (reply.Reaping incs) low gone there fit = inr refl
-gone_named rows next i r low gone there fit = true_not_false (is_gone rows i) gone (not-true (is_gone rows i) fit)
+gone_named rows next i r low gone there fit = true_and_false (is_gone rows i) gone (not-true (is_gone rows i) fit)
 
 -- while it goes, it lives
 live_named : (rows : List Row) (next i : ℕ) (r : Reply) → IsTrue (is_removing r) → IsTrue (fits rows next r i) → IsTrue (is_live rows i)
@@ -367,7 +363,7 @@ module _ (w : World) (e : Entry) (healthy : IsHealthy w) (root : IsTrue (stands 
   dead_named : IsDead w i → Contains (named_in e.reply) i → (e.reply ≡ reply.Gone i) ⊎ IsTrue (is_removing e.reply) → e.reply ≡ reply.Gone i
   dead_named it there (inl same) = same
   dead_named it there (inr goes) =
-      true_not_false (is_live w.rows i) (live_named w.rows w.next_inc i e.reply goes (fitting there)) it.dead
+      true_and_false (is_live w.rows i) (live_named w.rows w.next_inc i e.reply goes (fitting there)) it.dead
 
   forgotten : IsDead w i → IsForgotten w e i
   forgotten it = record {
@@ -391,7 +387,7 @@ destroyed_stay_gone f es legal =
 unfound : (w : World) (i : ℕ) (m : Moniker) → IsHealthy w → IsTrue (stands w.rows 0) → IsGone w i → found_from w.rows 0 [] m.parts ≡ reply.Found i → ⊥
 unfound w i m healthy root it found =
     let well : IsTrue (names_well w.rows w.next_inc (reply.Found i)) = reply_well w 0 (Find m) (reply.Found i) healthy.sound.orderly root (sym found) in
-    true_not_false (is_gone w.rows i) it.gone (not-true (is_gone w.rows i) (first_so (stands w.rows i) true well))
+    true_and_false (is_gone w.rows i) it.gone (not-true (is_gone w.rows i) (first_so (stands w.rows i) true well))
 
 -- what was destroyed or removed is so in the tree that is left
 left_gone : (f : Frame) (es : List Entry) (i : ℕ) → Legal (start f) es → IsDestroyed f es i ⊎ IsPurged es i → IsGone (replay (start f) es) i

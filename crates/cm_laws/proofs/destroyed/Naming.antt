@@ -7,6 +7,7 @@ use Rattle.std.specs.Cmp.{unsigned_Decides, first_so, second_so}
 use Rattle.std.proofs.lemmas.List.Folds.{list_all-map, list_all-append}
 use Rattle.cm_names.specs.declared.child.ChildName.{ChildName}
 use Rattle.cm_names.specs.declared.moniker.Moniker.{Moniker}
+use Rattle.cm_facts.proofs.Options.{option_eq_some}
 use Rattle.cm_decl.specs.declared.decl.Decl.{Decl}
 use Rattle.cm_decl.specs.declared.node.DynChild.{DynChild}
 use Rattle.cm_decl.specs.declared.rows.Child.{Child}
@@ -45,7 +46,7 @@ use Rattle.cm_world.specs.Openings.{unready, unopened, routed, opened, opened_at
 use Rattle.cm_world.specs.Step.{PicksOn, Allowed}
 use Rattle.cm_world.specs.Expiring.{reaped}
 use Rattle.cm_world.proofs.trees.Finding.{none_some, some_same, row_of-inc}
-use Rattle.cm_order.proofs.trees.Trees.{all_rows, some_eq, and_pair, not_flip}
+use Rattle.cm_order.proofs.trees.Trees.{all_rows, and_pair, not_flip}
 use Rattle.cm_laws.specs.Destroying.{incs_of_provider, incs_of_route, named_in}
 use Rattle.cm_laws.proofs.entries.Answered.{passes_or}
 use Rattle.cm_laws.proofs.sound.Reaps.{reaped_doomed, doomed_live, all_more}
@@ -264,7 +265,7 @@ module _ (rows : List Row) (next : ℕ) (orderly : IsOrderly rows next) where
   kid_by_well p coll i r (Some c) lives here = tested (has_parent p r) (option_eq bytes_eq c.coll (Some coll)) r.doomed refl refl where
     tested : (a b d : Bool) → has_parent p r ≡ a → r.doomed ≡ d → IsTrue (option_map_or (λ (k : Kid). stands rows k.inc) (cond (a && b && not d) (Some (record { name = c.name; inc = r.inc })) None) true)
     tested true true false up undoomed =
-        row_here i r lives (stands_down rows next orderly i p r lives (some_eq r.parent p up) undoomed here)
+        row_here i r lives (stands_down rows next orderly i p r lives (option_eq_some r.parent p up) undoomed here)
     tested true true true up undoomed = refl
     tested true false d up undoomed = refl
     tested false b d up undoomed = refl

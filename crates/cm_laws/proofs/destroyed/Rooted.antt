@@ -2,6 +2,7 @@
 use Rattle.std.proofs.Common.{◌≡◌, ℕ, ◌<◌, ◌≤◌, List, [], ◌∷◌, ◌++◌, Bool, true, false, cond, true≢false, Option, Some, None, is_some, IsTrue, refl, sym, ◌∙◌, ap, subst, arith, inl, inr, ◌⊎◌}
 use Rattle.std.specs.Option.{option_map_or}
 use Rattle.cm_names.specs.declared.child.ChildName.{ChildName}
+use Rattle.cm_facts.proofs.Booleans.{true_and_false}
 use Rattle.cm_world.specs.declared.row.Row.{Row}
 use Rattle.cm_world.specs.declared.frame.Frame.{Frame}
 use Rattle.cm_world.specs.declared.action.Act.{Act}
@@ -27,7 +28,7 @@ use Rattle.cm_world.specs.Legal.{IsStep, Legal, replay}
 use Rattle.cm_world.specs.Sound.{IsOrderly, IsParent}
 use Rattle.cm_world.proofs.trees.Finding.{some_same}
 use Rattle.cm_table.proofs.tree.Rows.{Becomes, becomes_after, lives_left}
-use Rattle.cm_order.proofs.trees.Trees.{not_true, true_not_false, below_least}
+use Rattle.cm_order.proofs.trees.Trees.{not_true, below_least}
 use Rattle.cm_laws.proofs.actions.Tasks.{by_test, edit_other}
 use Rattle.cm_laws.proofs.sound.Above.{above_cases}
 use Rattle.cm_laws.proofs.sound.Marks.{IsLight, light_pending, light_on, light_end}
@@ -109,7 +110,7 @@ module _ (rows : List Row) (rooted : IsRooted rows) where
 module _ (rows : List Row) (next : ℕ) (orderly : IsOrderly rows next) (rooted : IsRooted rows) where
   no_mark : IsTrue (is_doomed rows 0) → ⊥
   no_mark above = elim (above_cases (λ s. s.doomed) rows next orderly 0 rooted.row rooted.lives above) [
-    | inl here ↦ true_not_false rooted.row.doomed here rooted.undoomed
+    | inl here ↦ true_and_false rooted.row.doomed here rooted.undoomed
     | inr higher ↦
         let parent : IsParent rows higher.0 0 = (orderly.parents 0 higher.0 rooted.row rooted.lives higher.1).0 in
         let lower : higher.0 < 0 = parent.lower in

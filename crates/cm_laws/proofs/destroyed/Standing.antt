@@ -10,6 +10,8 @@ use Rattle.cm_names.specs.declared.availability.Availability.{Availability}
 use Rattle.cm_names.specs.Availability.{fits}
 use Rattle.cm_names.specs.Rights.{RightSet, contains}
 use Rattle.cm_names.specs.declared.child.ChildName.{ChildName}
+use Rattle.cm_facts.proofs.Booleans.{true_and_false}
+use Rattle.cm_facts.proofs.Options.{option_eq_some}
 use Rattle.cm_decl.specs.Clashes.{or_else}
 use Rattle.cm_decl.specs.declared.decl.Decl.{Decl}
 use Rattle.cm_decl.specs.declared.kind.Kind.{Kind}
@@ -37,7 +39,7 @@ use Rattle.cm_world.specs.NextStation.{NextStation, To, Ends, Needs, FromVoid, N
 use Rattle.cm_world.specs.Route.{Named, First, NoUse, NoneExposed, named_by, IsChain, provider_of, route_of, weak_availability, weak_rights, unless_fitting, unless_within, is_offer_or_expose, standing as available, asked_rights, said_by, trial_by, IsDecided, IsWalkedFrom, IsWalked}
 use Rattle.cm_world.proofs.trees.Finding.{none_some, some_same, row_of-inc, find-passes}
 use Rattle.cm_world.proofs.trees.Walks.{find-lives}
-use Rattle.cm_order.proofs.trees.Trees.{some_eq, and_pair, not_true, true_not_false}
+use Rattle.cm_order.proofs.trees.Trees.{and_pair, not_true}
 use Rattle.cm_laws.specs.Destroying.{incs_of_provider, incs_of_route}
 use Rattle.cm_laws.proofs.sound.Above.{above_up, above_cases}
 
@@ -56,7 +58,7 @@ module _ (rows : List Row) (next : ℕ) (orderly : IsOrderly rows next) where
   -- ---- up and down the tree
 
   spared_by : (a b : Bool) → IsTrue (not (a || b)) → b ≡ false
-  spared_by true b h = true_not_false false h refl
+  spared_by true b h = true_and_false false h refl
   spared_by false b h = not-true b h
 
   spared : (i : ℕ) → IsTrue (stands rows i) → is_doomed rows i ≡ false
@@ -71,17 +73,17 @@ module _ (rows : List Row) (next : ℕ) (orderly : IsOrderly rows next) where
   stands_up i p r lives up h =
       let parent : IsParent rows p i = (orderly.parents i p r lives up).0 in
       standing p parent.row parent.lives
-      (not_true (is_doomed rows p) (λ above. true_not_false (is_doomed rows i) (above_up (λ s. s.doomed) rows next orderly i p r lives up above) (spared i h)))
+      (not_true (is_doomed rows p) (λ above. true_and_false (is_doomed rows i) (above_up (λ s. s.doomed) rows next orderly i p r lives up above) (spared i h)))
 
   -- a child of one, if it isn't doomed
   pub stands_down : (i p : ℕ) (r : Row) → row_of rows i ≡ Some r → r.parent ≡ Some p → r.doomed ≡ false → IsTrue (stands rows p) → IsTrue (stands rows i)
   stands_down i p r lives up undoomed h = standing i r lives (not_true (is_doomed rows i) by_cases) where
     by_cases : IsTrue (is_doomed rows i) → ⊥
     by_cases above = elim (above_cases (λ s. s.doomed) rows next orderly i r lives above) [
-      | inl here ↦ true_not_false r.doomed here undoomed
+      | inl here ↦ true_and_false r.doomed here undoomed
       | inr higher ↦
           let same : higher.0 ≡ p = some_same higher.0 p (sym higher.1 ∙ up) in
-          true_not_false (is_doomed rows p) (subst (λ j. IsTrue (is_doomed rows j)) same higher.2) (spared p h)
+          true_and_false (is_doomed rows p) (subst (λ j. IsTrue (is_doomed rows j)) same higher.2) (spared p h)
     ]
 
   found_child : (p j : ℕ) (c : ChildName) (o : Option Row) → find (λ r. has_parent p r && has_name c r && not r.doomed) rows ≡ o → option_map (λ r. r.inc) o ≡ Some j → IsTrue (stands rows p) → IsTrue (stands rows j)
@@ -91,7 +93,7 @@ module _ (rows : List Row) (next : ℕ) (orderly : IsOrderly rows next) where
       let passes : IsTrue (test r) = find-passes test rows r f in
       let named : IsTrue (has_parent p r && has_name c r) = first_so (has_parent p r && has_name c r) (not r.doomed) passes in
       subst (λ i. IsTrue (stands rows i)) (some_same r.inc j e)
-      (stands_down r.inc p r (find-lives test rows next r orderly.increasing f) (some_eq r.parent p (first_so (has_parent p r) (has_name c r) named)) (not-true r.doomed (second_so (has_parent p r && has_name c r) (not r.doomed) passes)) h)
+      (stands_down r.inc p r (find-lives test rows next r orderly.increasing f) (option_eq_some r.parent p (first_so (has_parent p r) (has_name c r) named)) (not-true r.doomed (second_so (has_parent p r && has_name c r) (not r.doomed) passes)) h)
 
   -- a child that is found by its name
   pub child_stands : (p j : ℕ) (c : ChildName) → child_of rows p c ≡ Some j → IsTrue (stands rows p) → IsTrue (stands rows j)

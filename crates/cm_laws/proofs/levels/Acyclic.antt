@@ -4,6 +4,7 @@ use Rattle.std.specs.List.{list_any}
 use Rattle.std.specs.Cmp.{unsigned_Decides}
 use Rattle.std.proofs.lemmas.List.Folds.{list_any-append}
 use Rattle.cm_names.specs.declared.child.ChildName.{ChildName}
+use Rattle.cm_facts.proofs.Booleans.{or_assoc}
 use Rattle.cm_decl.specs.declared.decl.Decl.{Decl}
 use Rattle.cm_decl.specs.declared.rows.Give.{Give}
 use Rattle.cm_decl.specs.declared.node.DynChild.{DynChild}
@@ -207,10 +208,6 @@ pub acyclic_resolved : (rows : List Row) (next i : ℕ) (url : List ℕ) (d : De
 acyclic_resolved rows next i url d r sound lives unresolved valid = resolved_level rows next i url d r sound lives unresolved valid
 
 -- ---- a child is created
-
-or_assoc : (a b c : Bool) → (a || (b || c)) ≡ ((a || b) || c)
-or_assoc true b c = refl
-or_assoc false b c = refl
 
 module _ (rows : List Row) (next p : ℕ) (coll name url : List ℕ) (gives : List Give) (d : Decl) (sound : IsSound rows next) (found : decl_of rows p ≡ Some d) where
   abbrev own_name : ChildName

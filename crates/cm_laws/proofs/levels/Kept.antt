@@ -3,15 +3,16 @@ use Rattle.std.proofs.Common.{◌≡◌, ℕ, List, [], ◌∷◌, false, cond, 
 use Rattle.std.specs.List.{list_any}
 use Rattle.std.specs.Option.{option_eq}
 use Rattle.std.specs.Cmp.{unsigned_Decides, first_so, second_so}
-use Rattle.std.proofs.lemmas.Bool.{not-true}
+use Rattle.std.proofs.lemmas.Bool.{not-true, or_cases}
 use Rattle.cm_names.specs.declared.child.ChildName.{ChildName}
+use Rattle.cm_facts.proofs.Options.{option_eq_some}
 use Rattle.cm_decl.specs.declared.decl.Decl.{Decl}
 use Rattle.cm_decl.specs.declared.origin.Origin.{Origin}
 use Rattle.cm_decl.specs.declared.origin.Origin.TheVariants as origin
 use Rattle.cm_decl.specs.Same.{same_child}
 use Rattle.cm_decl.specs.Graph.{own_sources, child_sources}
 use Rattle.cm_decl.specs.Reach.{NoCycle}
-use Rattle.cm_decl.proofs.Sameness.{or_split, never, same_child_exact}
+use Rattle.cm_decl.proofs.Sameness.{never, same_child_exact}
 use Rattle.cm_world.specs.declared.row.Row.{Row}
 use Rattle.cm_world.specs.Rows.{row_of, is_live, decl_of, has_parent, has_name, child_of}
 use Rattle.cm_world.specs.Level.{is_child_row, is_level_node, row_sources, child_row_sources, level_sources, is_from_row, LevelStrong}
@@ -20,7 +21,7 @@ use Rattle.cm_world.proofs.trees.Finding.{none_some, some_same, find-passes}
 use Rattle.cm_world.proofs.trees.Levels.{edge_source, edge_node}
 use Rattle.cm_world.proofs.trees.Walks.{find-lives}
 use Rattle.cm_order.specs.Kids.{IsKid}
-use Rattle.cm_order.proofs.trees.Trees.{some_eq, eq_some, or_left, or_right, and_pair}
+use Rattle.cm_order.proofs.trees.Trees.{eq_some, or_left, or_right, and_pair}
 use Rattle.cm_order.proofs.names.Naming.{IsNamedKid, kid_found}
 use Rattle.cm_order.proofs.names.Edges.{kid_node, node_kid}
 use Rattle.cm_laws.proofs.levels.Mapped.{IsMapped, mapped_acyclic}
@@ -76,7 +77,7 @@ module _ (rows : List Row) (next : ℕ) (increasing : IncarnationsIncrease next 
         kid = record {
           row = r;
           lives = find-lives (λ r. has_parent p r && has_name c r && not r.doomed) rows next r increasing found;
-          parent = some_eq r.parent p (first_so (has_parent p r) (has_name c r) both);
+          parent = option_eq_some r.parent p (first_so (has_parent p r) (has_name c r) both);
         };
         there = not-true r.doomed (second_so (has_parent p r && has_name c r) (not r.doomed) passes);
         name = name_by r.name c (second_so (has_parent p r) (has_name c r) both);
@@ -110,14 +111,14 @@ module _ (old new : List Row) (next n : ℕ) (orderly : IsOrderly old next) (inc
   from_was : (y : ℕ) (s : Origin) → IsTrue (is_from_row new p y s) → IsTrue (is_from_row old p y s)
   from_was y origin.Own is = is
   from_was y (origin.Child c) is =
-      eq_some (child_of old p c) y (kid_found old next orderly p c y (named_was c y (named_kid new n increasing p c y (some_eq (child_of new p c) y is))))
+      eq_some (child_of old p c) y (kid_found old next orderly p c y (named_was c y (named_kid new n increasing p c y (option_eq_some (child_of new p c) y is))))
   from_was y origin.Parent is = never is
   from_was y origin.Framework is = never is
   from_was y origin.Void is = never is
 
   any_was : (y : ℕ) (ss : List Origin) → IsTrue (list_any (is_from_row new p y) ss) → IsTrue (list_any (is_from_row old p y) ss)
   any_was y [] is = never is
-  any_was y (s ∷ ss) is = elim (or_split (is_from_row new p y s) (list_any (is_from_row new p y) ss) is) [
+  any_was y (s ∷ ss) is = elim (or_cases (is_from_row new p y s) (list_any (is_from_row new p y) ss) is) [
     | inl here ↦ or_left (is_from_row old p y s) (list_any (is_from_row old p y) ss) (from_was y s here)
     | inr later ↦ or_right (is_from_row old p y s) (list_any (is_from_row old p y) ss) (any_was y ss later)
   ]

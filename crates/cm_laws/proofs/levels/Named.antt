@@ -3,7 +3,11 @@ use Rattle.std.proofs.Common.{◌≡◌, ℕ, List, [], ◌∷◌, ◌++◌, Boo
 use Rattle.std.specs.List.{list_any}
 use Rattle.std.specs.Cmp.{unsigned_Decides}
 use Rattle.std.proofs.lemmas.List.Folds.{list_any-append}
+use Rattle.std.proofs.lemmas.Bool.{or_cases}
 use Rattle.cm_names.specs.declared.child.ChildName.{ChildName}
+use Rattle.cm_facts.proofs.Booleans.{true_and_false}
+use Rattle.cm_facts.proofs.Options.{option_eq_some}
+use Rattle.cm_facts.proofs.Lists.{list_any_map}
 use Rattle.cm_decl.specs.declared.decl.Decl.{Decl}
 use Rattle.cm_decl.specs.declared.rows.Give.{Give}
 use Rattle.cm_decl.specs.declared.node.DynChild.{DynChild}
@@ -14,14 +18,14 @@ use Rattle.cm_decl.specs.declared.node.Node.TheVariants.{Own, Child}
 use Rattle.cm_decl.specs.Same.{same_child, same_node}
 use Rattle.cm_decl.specs.Graph.{is_node, static_name, static_node, dynamic_node, is_from_node, is_strong, own_sources, offers_to, child_sources, gives_of, sources_of, StrongOn}
 use Rattle.cm_decl.specs.Reach.{NoCycle}
-use Rattle.cm_decl.proofs.Sameness.{or_split, never, same_node-refl}
+use Rattle.cm_decl.proofs.Sameness.{never, same_node-refl}
 use Rattle.cm_world.specs.declared.row.Row.{Row}
 use Rattle.cm_world.specs.Rows.{row_of, decl_of, child_of}
 use Rattle.cm_world.specs.Level.{child_row_sources, level_sources, is_from_row, LevelStrong}
 use Rattle.cm_world.proofs.trees.Finding.{some_same}
 use Rattle.cm_world.proofs.trees.Levels.{edge_source}
-use Rattle.cm_order.proofs.trees.Trees.{some_eq, or_left, or_right, and_pair, true_not_false}
-use Rattle.cm_order.proofs.names.Listing.{any_map, any_flat}
+use Rattle.cm_order.proofs.trees.Trees.{or_left, or_right, and_pair}
+use Rattle.cm_order.proofs.names.Listing.{any_flat}
 use Rattle.cm_laws.proofs.levels.Mapped.{mapped_acyclic}
 use Rattle.cm_laws.proofs.levels.Kept.{own_or_kid, kid_sources}
 
@@ -31,8 +35,8 @@ use Rattle.cm_laws.proofs.levels.Kept.{own_or_kid, kid_sources}
 pub node_parts : (d : Decl) (dynamic : List DynChild) (c : ChildName) → is_node d dynamic (Child c) ≡ (list_any (λ k. same_child (static_name k.name) c) d.children || list_any (λ k. same_child k.name c) dynamic)
 node_parts d dynamic c =
     list_any-append (λ y. same_node y (Child c)) (Own ∷ map static_node d.children) (map dynamic_node dynamic)
-    ∙ ap (λ b. b || list_any (λ y. same_node y (Child c)) (map dynamic_node dynamic)) (any_map (λ y. same_node y (Child c)) static_node d.children)
-    ∙ ap (λ b. list_any (λ k. same_child (static_name k.name) c) d.children || b) (any_map (λ y. same_node y (Child c)) dynamic_node dynamic)
+    ∙ ap (λ b. b || list_any (λ y. same_node y (Child c)) (map dynamic_node dynamic)) (list_any_map (λ y. same_node y (Child c)) static_node d.children)
+    ∙ ap (λ b. list_any (λ k. same_child (static_name k.name) c) d.children || b) (list_any_map (λ y. same_node y (Child c)) dynamic_node dynamic)
 
 -- what was given to the children of a name was given to one of them
 pub given_parts : (dynamic : List DynChild) (c : ChildName) (test : Give → Bool) → list_any test (gives_of dynamic c) ≡ list_any (λ k. same_child k.name c && list_any test k.gives) dynamic
@@ -53,7 +57,7 @@ source_parts d c gives q =
 more_sources : (d : Decl) (c : ChildName) (few many : List Give) → ((test : Give → Bool) → IsTrue (list_any test few) → IsTrue (list_any test many)) → (q : Origin → Bool) → IsTrue (list_any q (child_sources d c few)) → IsTrue (list_any q (child_sources d c many))
 more_sources d c few many more q some =
     let test : Give → Bool = λ g. is_strong g.dependency && q g.from in
-    source_parts d c many q ∙ elim (or_split (list_any test (offers_to d c)) (list_any test few) (sym (source_parts d c few q) ∙ some)) [
+    source_parts d c many q ∙ elim (or_cases (list_any test (offers_to d c)) (list_any test few) (sym (source_parts d c few q) ∙ some)) [
       | inl offered ↦ or_left (list_any test (offers_to d c)) (list_any test many) offered
       | inr given ↦ or_right (list_any test (offers_to d c)) (list_any test many) (more test given)
     ]
@@ -79,7 +83,7 @@ module _ (rows : List Row) (p : ℕ) (d : Decl) (dynamic : List DynChild) (found
 
   source_found : (y : ℕ) (s : Origin) → IsTrue (is_from_row rows p y s) → (m : Node) × IsFound rows p y m × IsTrue (is_from_node m s)
   source_found y origin.Own is = (Own, subst (λ z. IsFound rows p z Own) (sym ((unsigned_Decides y p).0 is)) itself, refl)
-  source_found y (origin.Child c) is = (Child c, child y c (some_eq (child_of rows p c) y is), same_node-refl (Child c))
+  source_found y (origin.Child c) is = (Child c, child y c (option_eq_some (child_of rows p c) y is), same_node-refl (Child c))
   source_found y origin.Parent is = never is
   source_found y origin.Framework is = never is
   source_found y origin.Void is = never is
@@ -87,7 +91,7 @@ module _ (rows : List Row) (p : ℕ) (d : Decl) (dynamic : List DynChild) (found
   -- what is a source by rows is one by names
   any_found : (y : ℕ) (ss : List Origin) → IsTrue (list_any (is_from_row rows p y) ss) → (m : Node) × IsFound rows p y m × IsTrue (list_any (is_from_node m) ss)
   any_found y [] is = never is
-  any_found y (s ∷ ss) is = elim (or_split (is_from_row rows p y s) (list_any (is_from_row rows p y) ss) is) [
+  any_found y (s ∷ ss) is = elim (or_cases (is_from_row rows p y s) (list_any (is_from_row rows p y) ss) is) [
     | inl here ↦
         let one : (m : Node) × IsFound rows p y m × IsTrue (is_from_node m s) = source_found y s here in
         (one.0, one.1, or_left (is_from_node one.0 s) (list_any (is_from_node one.0) ss) one.2)
@@ -131,7 +135,7 @@ module _ (rows : List Row) (p : ℕ) (d : Decl) (dynamic : List DynChild) (found
   -- ---- one node for each row
 
   not_itself : (x : ℕ) (c : ChildName) → child_of rows p c ≡ Some x → x ≡ p → ⊥
-  not_itself x c finds same = true_not_false (x == p) ((unsigned_Decides x p).1 same) (listed c x finds).other
+  not_itself x c finds same = true_and_false (x == p) ((unsigned_Decides x p).1 same) (listed c x finds).other
 
   one_name : (x : ℕ) (b c : ChildName) → child_of rows p b ≡ Some x → child_of rows p c ≡ Some x → b ≡ c
   one_name x b c first second =

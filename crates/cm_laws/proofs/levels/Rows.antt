@@ -2,6 +2,7 @@
 use Rattle.std.proofs.Common.{◌≡◌, ℕ, ◌+◌, ◌≤◌, List, [], ◌∷◌, ◌++◌, Bool, true, false, cond, not, ◌&&◌, ◌==◌, Option, Some, None, IsTrue, filter, flat_map, is_some, option_and_then, refl, ◌∙◌, ap, subst, arith}
 use Rattle.std.specs.List.{list_any, cons_option}
 use Rattle.cm_names.specs.declared.child.ChildName.{ChildName}
+use Rattle.cm_facts.proofs.Options.{cond_some_more}
 use Rattle.cm_decl.specs.declared.rows.Child.{Child as DeclaredChild}
 use Rattle.cm_decl.specs.declared.rows.Give.{Give}
 use Rattle.cm_decl.specs.declared.node.DynChild.{DynChild}
@@ -24,16 +25,13 @@ use Rattle.cm_order.proofs.names.Listing.{row_later}
 -- ---- rows that are left
 
 module _ (t : Row → Bool) where
-  first_by : (u : Bool) (s r : Row) (o q : Option Row) → (o ≡ Some r → q ≡ Some r) → cond u (Some s) o ≡ Some r → cond u (Some s) q ≡ Some r
-  first_by true s r o q later e = e
-  first_by false s r o q later e = later e
 
   -- a row that is left was there
   pub left_lives : (rows : List Row) (next x : ℕ) (r : Row) → IncarnationsIncrease next rows → row_of (filter t rows) x ≡ Some r → row_of rows x ≡ Some r
   left_lives [] next x r increasing lives = absurd (none_some r lives)
   left_lives (s ∷ ss) next x r increasing lives = by (t s) refl (left_lives ss next x r increasing.1) where
     by : (b : Bool) → t s ≡ b → (row_of (filter t ss) x ≡ Some r → row_of ss x ≡ Some r) → row_of (s ∷ ss) x ≡ Some r
-    by true e later = first_by (s.inc == x) s r (row_of (filter t ss) x) (row_of ss x) later (rw e at lives)
+    by true e later = cond_some_more (s.inc == x) s r (row_of (filter t ss) x) (row_of ss x) later (rw e at lives)
     by false e later =
         let behind : row_of ss x ≡ Some r = later (rw e at lives) in
         row_later s ss x r behind (increasing.0.1 x (is_some_by (row_of ss x) r behind))

@@ -1,11 +1,12 @@
 -- Whether a row, or one above it, passes a test, in orderly rows and behind a change of them.
 use Rattle.std.proofs.Common.{◌≡◌, ℕ, zero, suc, List, Bool, false, Option, Some, None, IsTrue, length, refl, sym, ◌∙◌, ap, inl, inr, ◌⊎◌}
-use Rattle.cm_decl.proofs.Sameness.{or_split}
+use Rattle.std.proofs.lemmas.Bool.{or_cases}
+use Rattle.cm_facts.proofs.Booleans.{true_and_false}
 use Rattle.cm_world.specs.declared.row.Row.{Row}
 use Rattle.cm_world.specs.Rows.{row_of, at_or_above, some_above}
 use Rattle.cm_world.specs.Sound.{IsOrderly}
 use Rattle.cm_world.proofs.trees.Climbing.{some_above-step, above_root}
-use Rattle.cm_order.proofs.trees.Trees.{climb, or_left, or_right, true_not_false}
+use Rattle.cm_order.proofs.trees.Trees.{climb, or_left, or_right}
 
 module _ (passes : Row → Bool) (rows : List Row) where
   nothing_above : (n i : ℕ) → row_of rows i ≡ None → at_or_above n passes rows (Some i) ≡ false
@@ -13,7 +14,7 @@ module _ (passes : Row → Bool) (rows : List Row) where
   nothing_above (suc n) i none = rw (none, at_or_above) refl
 
   lives_by : (i : ℕ) (o : Option Row) → row_of rows i ≡ o → IsTrue (some_above passes rows i) → (r : Row) × (row_of rows i ≡ Some r)
-  lives_by i None e above = true_not_false (some_above passes rows i) above (nothing_above (length rows) i e)
+  lives_by i None e above = true_and_false (some_above passes rows i) above (nothing_above (length rows) i e)
   lives_by i (Some r) e above = (r, e)
 
   -- a row of which it is said lives
@@ -22,7 +23,7 @@ module _ (passes : Row → Bool) (rows : List Row) where
 
   parent_by : (o : Option ℕ) → IsTrue (at_or_above (length rows) passes rows o) → (p : ℕ) × (o ≡ Some p) × IsTrue (some_above passes rows p)
   parent_by None above =
-      true_not_false (at_or_above (length rows) passes rows None) above (above_root (length rows) passes rows)
+      true_and_false (at_or_above (length rows) passes rows None) above (above_root (length rows) passes rows)
   parent_by (Some p) above = (p, refl, above)
 
   module _ (next : ℕ) (orderly : IsOrderly rows next) where
@@ -39,7 +40,7 @@ module _ (passes : Row → Bool) (rows : List Row) where
     -- and of no other
     pub above_cases : (i : ℕ) (r : Row) → row_of rows i ≡ Some r → IsTrue (some_above passes rows i) → IsTrue (passes r) ⊎ ((p : ℕ) × (r.parent ≡ Some p) × IsTrue (some_above passes rows p))
     above_cases i r lives above =
-        elim (or_split (passes r) (at_or_above (length rows) passes rows r.parent) (sym (some_above-step passes rows next i r orderly lives) ∙ above)) [
+        elim (or_cases (passes r) (at_or_above (length rows) passes rows r.parent) (sym (some_above-step passes rows next i r orderly lives) ∙ above)) [
           | inl here ↦ inl here
           | inr higher ↦ inr (parent_by r.parent higher)
         ]

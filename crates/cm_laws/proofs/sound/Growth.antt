@@ -6,6 +6,8 @@ use Rattle.std.specs.Cmp.{unsigned_Decides, first_so, second_so}
 use Rattle.std.proofs.lemmas.List.Sums.{sum_by-append}
 use Rattle.std.proofs.lemmas.Bool.{not-true}
 use Rattle.cm_names.specs.declared.child.ChildName.{ChildName}
+use Rattle.cm_facts.proofs.Booleans.{true_and_false}
+use Rattle.cm_facts.proofs.Options.{option_eq_some}
 use Rattle.cm_decl.specs.declared.decl.Decl.{Decl}
 use Rattle.cm_decl.specs.declared.rows.Child.{Child}
 use Rattle.cm_decl.specs.declared.rows.Give.{Give}
@@ -29,7 +31,7 @@ use Rattle.cm_table.proofs.tree.Growth.{childless}
 use Rattle.cm_table.proofs.tree.Taking.{orderly_taken}
 use Rattle.cm_table.proofs.tree.Adding.{orderly_added}
 use Rattle.cm_table.specs.declared.change.Change.TheVariants.{Resolve}
-use Rattle.cm_order.proofs.trees.Trees.{all_rows, some_eq, not_true, not_flip, true_not_false}
+use Rattle.cm_order.proofs.trees.Trees.{all_rows, not_true, not_flip}
 use Rattle.cm_laws.proofs.actions.Tasks.{by_test, find_split}
 use Rattle.cm_laws.proofs.sound.Rows.{Follows, follows_itself, follows_more, Kept, kept}
 use Rattle.cm_laws.proofs.sound.Changes.{count-cons, AreClosedWell, still_shut, IsFair, closed_changed, KeepsStatic, is_static_name, static_changed, places_same}
@@ -91,7 +93,7 @@ static_named (Some c) name h =
 both : (a b c : Bool) → (IsTrue b → IsTrue c) → IsTrue (not (a && c)) → (a && b) ≡ false
 both false b c more h = refl
 both true false c more h = refl
-both true true c more h = true_not_false c (more refl) (not-true c h)
+both true true c more h = true_and_false c (more refl) (not-true c h)
 
 -- a row that is no child of p by such a name is none by a given one
 not_named : (p : ℕ) (name : List ℕ) (r : Row) → IsTrue (not (is_static_child p r)) → (has_parent p r && has_name (static_name name) r) ≡ false
@@ -109,7 +111,7 @@ module _ (rows kids : List Row) (p : ℕ) (others : IsTrue (list_all (λ r. not 
   kept_by : (d : Decl) → HasStatic rows p d → (i : ℕ) (s : Row) → (row_of rows i ≡ Some s) ⊎ (row_of kids i ≡ Some s) → IsTrue (is_static_child p s) → (s.doomed ≡ false) × (s.gives ≡ [])
   kept_by d was i s (inl old) static = was.kept i s old static
   kept_by d was i s (inr kid) static =
-      true_not_false (is_static_child p s) static (not-true (is_static_child p s) (find-all (λ r. r.inc == i) (λ r. not (is_static_child p r)) kids s others kid))
+      true_and_false (is_static_child p s) static (not-true (is_static_child p s) (find-all (λ r. r.inc == i) (λ r. not (is_static_child p r)) kids s others kid))
 
   pub static_more : (d : Decl) → HasStatic rows p d → HasStatic (rows ++ kids) p d
   static_more d was = record {
@@ -260,7 +262,7 @@ module _ (rows : List Row) (next i : ℕ) (url : List ℕ) (d : Decl) (r : Row) 
   none_there : IsTrue (list_all (λ s. not (has_parent i s)) rows)
   none_there =
       all_rows rows next (λ s. not (has_parent i s)) sound.orderly.increasing
-      (λ j s here. not_flip (has_parent i s) (not_true (has_parent i s) (λ up. no_child j s here (some_eq s.parent i up))))
+      (λ j s here. not_flip (has_parent i s) (not_true (has_parent i s) (λ up. no_child j s here (option_eq_some s.parent i up))))
 
   first_fails : (a b : Bool) → IsTrue (not a) → (a && b) ≡ false
   first_fails true b h = never h
@@ -278,7 +280,7 @@ module _ (rows : List Row) (next i : ℕ) (url : List ℕ) (d : Decl) (r : Row) 
   own_by : (j : ℕ) (s : Row) → (row_of now j ≡ Some s) ⊎ (row_of kids j ≡ Some s) → IsTrue (is_static_child i s) → (s.doomed ≡ false) × (s.gives ≡ [])
   own_by j s (inl here) static =
       let k : Kept rows i take j s = kept rows i take (λ s. refl) j s here in
-      absurd (no_child j k.row k.was (sym (same_parent k.row k.is) ∙ some_eq s.parent i (first_so (has_parent i s) (is_static_name s.name) static)))
+      absurd (no_child j k.row k.was (sym (same_parent k.row k.is) ∙ option_eq_some s.parent i (first_so (has_parent i s) (is_static_name s.name) static)))
     where
       same_parent : (q : Row) → (s ≡ q) ⊎ ((j ≡ i) × (s ≡ take q)) → s.parent ≡ q.parent
       same_parent q (inl same) = ap (λ z. z.parent) same

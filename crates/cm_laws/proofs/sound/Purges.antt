@@ -3,6 +3,8 @@ use Rattle.std.proofs.Common.{◌≡◌, ℕ, ◌+◌, List, [], ◌∷◌, Bool
 use Rattle.std.specs.List.{count_by, list_all}
 use Rattle.std.specs.Cmp.{first_so, second_so}
 use Rattle.std.proofs.lemmas.Bool.{not-true}
+use Rattle.cm_facts.proofs.Booleans.{not_or, true_and_false}
+use Rattle.cm_facts.proofs.Options.{option_eq_some}
 use Rattle.cm_decl.specs.declared.decl.Decl.{Decl}
 use Rattle.cm_decl.specs.Graph.{static_name}
 use Rattle.cm_decl.proofs.Sameness.{never}
@@ -11,7 +13,7 @@ use Rattle.cm_world.specs.Rows.{row_of, is_below, has_parent, has_name}
 use Rattle.cm_world.specs.After.{others_than}
 use Rattle.cm_world.specs.Sound.{IsOrderly, IsParent, is_static_child, HasStatic, IsSound}
 use Rattle.cm_world.proofs.trees.Finding.{some_same, row_of-inc}
-use Rattle.cm_order.proofs.trees.Trees.{all_rows, some_eq, and_pair, not_true, not_flip, true_not_false, below_up, below_cases}
+use Rattle.cm_order.proofs.trees.Trees.{all_rows, and_pair, not_true, not_flip, below_up, below_cases}
 use Rattle.cm_laws.proofs.sound.Rows.{was_left, is_left, increasing_left, Follows, follows_left}
 use Rattle.cm_laws.proofs.sound.Changes.{count-cons, AreClosedWell, still_shut, is_static_name}
 use Rattle.cm_laws.proofs.sound.Growth.{static_named}
@@ -50,7 +52,7 @@ module _ (rows : List Row) (next top : ℕ) (was : IsOrderly rows next) where
   -- its parent is left too
   parent_outside : (i p : ℕ) (r : Row) → row_of rows i ≡ Some r → r.parent ≡ Some p → is_below rows top i ≡ false → is_below rows top p ≡ false
   parent_outside i p r lives up outside =
-      not_true (is_below rows top p) (λ below. true_not_false (is_below rows top i) (below_up rows next was top i p r lives up below) outside)
+      not_true (is_below rows top p) (λ below. true_and_false (is_below rows top i) (below_up rows next was top i p r lives up below) outside)
 
   left_parents : (i p : ℕ) (r : Row) → row_of (others_than rows top) i ≡ Some r → r.parent ≡ Some p → IsParent (others_than rows top) p i × IsSome r.name
   left_parents i p r lives up =
@@ -82,21 +84,17 @@ module _ (rows : List Row) (next top : ℕ) (was : IsOrderly rows next) where
     | inl same ↦ same
     | inr above ↦
         let same : above.0 ≡ p = some_same above.0 p (sym above.1 ∙ up) in
-        true_not_false (is_below rows top p) (subst (λ j. IsTrue (is_below rows top j)) same above.2) outside
+        true_and_false (is_below rows top p) (subst (λ j. IsTrue (is_below rows top j)) same above.2) outside
   ]
 
 -- ---- the tree as a whole
-
-unless : (a b : Bool) → (IsTrue a → IsTrue b) → IsTrue (not a || b)
-unless true b h = h refl
-unless false b h = refl
 
 module _ (rows : List Row) (next top : ℕ) (sound : IsSound rows next) (t : Row) (lives : row_of rows top ≡ Some t) (doomed : t.doomed ≡ true) where
   -- a child that is declared stays with its parent
   static_stays : (p : ℕ) (d : Decl) → HasStatic rows p d → is_below rows top p ≡ false → (i : ℕ) (r : Row) → row_of rows i ≡ Some r → IsTrue (is_static_child p r) → is_below rows top i ≡ false
   static_stays p d was outside i r here static =
       not_true (is_below rows top i)
-      (λ below. let up : r.parent ≡ Some p = some_eq r.parent p (first_so (has_parent p r) (is_static_name r.name) static) in
+      (λ below. let up : r.parent ≡ Some p = option_eq_some r.parent p (first_so (has_parent p r) (is_static_name r.name) static) in
       let same : i ≡ top = goes_alone rows next top sound.orderly i p r here up outside below in
       let one : r ≡ t = some_same r t (sym here ∙ ap (row_of rows) same ∙ lives) in
       true≢false (sym doomed ∙ sym (ap (λ z. z.doomed) one) ∙ (was.kept i r here static).0))
@@ -109,7 +107,7 @@ module _ (rows : List Row) (next top : ℕ) (sound : IsSound rows next) (t : Row
   each_left : (p : ℕ) (d : Decl) (name : List ℕ) → HasStatic rows p d → is_below rows top p ≡ false → IsTrue (list_all (λ r. not (has_parent p r && has_name (static_name name) r) || not (is_below rows top r.inc)) rows)
   each_left p d name was outside =
       all_rows rows next (λ r. not (has_parent p r && has_name (static_name name) r) || not (is_below rows top r.inc)) sound.orderly.increasing
-      (λ i r here. unless (has_parent p r && has_name (static_name name) r) (not (is_below rows top r.inc))
+      (λ i r here. not_or (has_parent p r && has_name (static_name name) r) (not (is_below rows top r.inc))
       (λ named. not_flip (is_below rows top r.inc)
       (ap (is_below rows top) (row_of-inc rows i r here) ∙ static_stays p d was outside i r here (named_child p name r named))))
 

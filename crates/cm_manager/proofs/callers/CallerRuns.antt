@@ -1,5 +1,6 @@
 -- What a caller's turns, works and calls come to, one behind the other.
 use Rattle.std.proofs.Common.{◌≡◌, ◌≢◌, ℕ, List, [], Result, Ok, Err, IsTrue, refl, sym, subst, ◌∙◌}
+use Rattle.cm_facts.proofs.Options.{Ok_same, Ok_not_Err}
 use Rattle.cm_world.specs.declared.action.ActKind.{ActKind}
 use Rattle.cm_world.specs.declared.action.ActKind.TheVariants as kind
 use Rattle.cm_world.specs.declared.action.Finish.{Finish}
@@ -154,17 +155,11 @@ cut_event e x s t turns asked = turns_run _ s t turns (cut_trying s.manager.mani
 
 -- ---- a call
 
-same_ok : (r : Result ℕ Refusal) (i n : ℕ) → r ≡ Ok i → r ≡ Ok n → n ≡ i
-same_ok r i n a b = cc (a, b)
-
-not_both : (r : Result ℕ Refusal) (n : ℕ) (x : Refusal) → r ≡ Err x → r ≡ Ok n → ⊥
-not_both r n x a b = cc (a, b)
-
 -- what is asked of a target is the call that its command names
 pub performs_found : (t : Target) (q : Question) (s u v : CallerView) (row : Result ℕ Refusal) (i : ℕ) (a : Result Answer Refusal) → row ≡ Ok i → CallerFinds t s u row → CallerRuns (λ f c x y. AnswersTo f c q i x y a) u v → CallerPerforms (asked_by t q) s v a
 performs_found (target.Inc n) q s u v row i a is finds answers =
     runs_as _ _ s v
-    (λ f c x y way. question_called f c (target.Inc n) q x y a (record { row = Ok n; h₁ = x; finding = (refl, refl); behind = subst (λ (j : ℕ). AnswersTo f c q j x y a) (sym (same_ok row i n is finds.1)) way }))
+    (λ f c x y way. question_called f c (target.Inc n) q x y a (record { row = Ok n; h₁ = x; finding = (refl, refl); behind = subst (λ (j : ℕ). AnswersTo f c q j x y a) (sym (Ok_same finds.1 is)) way }))
     (subst (λ (z : CallerView). CallerRuns (λ f c x y. AnswersTo f c q i x y a) z v) finds.0 answers)
 performs_found (target.Named m) q s u v row i a is finds answers =
     runs_then (λ f c x y. Finding f c (target.Named m) x y row) (λ f c x y. AnswersTo f c q i x y a) _ s u v
@@ -172,7 +167,7 @@ performs_found (target.Named m) q s u v row i a is finds answers =
     finds answers
 
 pub performs_missed : (t : Target) (q : Question) (s u : CallerView) (row : Result ℕ Refusal) (x : Refusal) → row ≡ Err x → CallerFinds t s u row → CallerPerforms (asked_by t q) s u (Err x)
-performs_missed (target.Inc n) q s u row x is finds = absurd (not_both row n x is finds.1)
+performs_missed (target.Inc n) q s u row x is finds = absurd (Ok_not_Err finds.1 is)
 performs_missed (target.Named m) q s u row x is finds =
     runs_as _ _ s u
     (λ f c a b way. question_called f c (target.Named m) q a b (Err x) (record { row = row; h₁ = b; finding = way; behind = subst (λ (o : Result ℕ Refusal). GoesOnWithRow o (AnswersTo f c q) b b (Err x)) (sym is) (refl, refl) }))

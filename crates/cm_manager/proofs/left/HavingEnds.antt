@@ -3,6 +3,7 @@ use Rattle.std.proofs.Common.{◌≡◌, ◌==◌, ◌⊎◌, inl, inr, ⊎_elim
 use Rattle.std.proofs.lemmas.List.Elements.{All-contains, All-contains_itself, All-filter, filter_passes, Contains-append_left, Contains-append_right, Contains-append_cases}
 use Rattle.std.proofs.lemmas.List.Sorted.{Contains-permutation, IsPermutation-filter_both}
 use Rattle.std.proofs.lemmas.Option.{slice_get_within, get_or_from_slice_get}
+use Rattle.cm_facts.proofs.Numbers.{eq_self}
 use Rattle.cm_world.specs.declared.action.ActKind.{ActKind}
 use Rattle.cm_world.specs.declared.action.Finish.{Finish}
 use Rattle.cm_world.specs.declared.action.Work.{Work}
@@ -102,9 +103,6 @@ grown_has_ends mine part whole ends closed is = subst HasEnds (sym is) (both_hav
 
 -- ---- histories
 
-pub own_caller : (c : ℕ) → (c == c) ≡ true
-own_caller c = search rules
-
 -- what each caller began has its end among that caller's entries, which stand in the history
 pub history_has_ends : (history : List Entry) (passes : List RealmPass) → BearsPassesOut history passes → All (λ (p : RealmPass). HasEnds p.mine) passes → HasEnds history
 history_has_ends history passes closes ends b (k, e, lt, at, is) =
@@ -113,7 +111,7 @@ history_has_ends history passes closes ends b (k, e, lt, at, is) =
     let there : Contains passes p = (has.0, slice_get_within passes has.0 p has.2, get_or_from_slice_get passes has.0 p p has.2) in
     let known : BearsPassOut (λ (s : Story). s.entries) (λ s. s.frame) (λ (x : Entry). x.caller) closes.story p = All-contains (BearsPassOut (λ (s : Story). s.entries) (λ s. s.frame) (λ (x : Entry). x.caller) closes.story) passes p closes.known there in
     let mine : own_entries e.caller history ≡ p.mine = ap (λ (c : ℕ). own_entries c history) (sym has.3) ∙ ap (own_entries p.caller) closes.entries ∙ known.2 in
-    let own : Contains p.mine e = subst (λ (l : List Entry). Contains l e) mine (kept_by_filter (λ (x : Entry). x.caller == e.caller) history e (own_caller e.caller) (k, lt, at)) in
+    let own : Contains p.mine e = subst (λ (l : List Entry). Contains l e) mine (kept_by_filter (λ (x : Entry). x.caller == e.caller) history e (eq_self e.caller) (k, lt, at)) in
     let end = All-contains (λ (q : RealmPass). HasEnds q.mine) passes p ends there b (any_of (BeginsWork b) p.mine e own is) in
     any_of (EndsAction b.1.action) history end.1
     (kept_of_filter (λ (x : Entry). x.caller == e.caller) history end.1 (subst (λ (l : List Entry). Contains l end.1) (sym mine) (end.0, end.2, end.3))) end.4

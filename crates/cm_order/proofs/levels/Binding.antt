@@ -5,13 +5,14 @@ use Rattle.std.specs.Option.{option_map_or}
 use Rattle.std.specs.Str.{bytes_eq}
 use Rattle.std.proofs.lemmas.List.Folds.{list_any-append, list_any_at}
 use Rattle.std.specs.Cmp.{first_so, second_so}
-use Rattle.std.proofs.lemmas.Bool.{not-true}
+use Rattle.std.proofs.lemmas.Bool.{not-true, or_cases}
 use Rattle.cm_names.specs.declared.child.ChildName.{ChildName}
+use Rattle.cm_facts.proofs.Booleans.{true_and_false}
 use Rattle.cm_decl.specs.declared.decl.Decl.{Decl}
 use Rattle.cm_decl.specs.declared.rows.Give.{Give}
 use Rattle.cm_decl.specs.declared.rows.Offer.{Offer}
 use Rattle.cm_decl.specs.Graph.{is_strong, target_of, child_sources, offers_to}
-use Rattle.cm_decl.proofs.Sameness.{or_split, never}
+use Rattle.cm_decl.proofs.Sameness.{never}
 use Rattle.cm_world.specs.declared.row.Row.{Row}
 use Rattle.cm_world.specs.Rows.{row_of, decl_of, is_subtree_shut}
 use Rattle.cm_world.specs.RowsInside.{name_of}
@@ -20,7 +21,7 @@ use Rattle.cm_world.specs.Sound.{IsSound}
 use Rattle.cm_order.specs.Kids.{IsKid}
 use Rattle.cm_order.specs.Search.{IsFreeAt}
 use Rattle.cm_order.specs.Glances.{is_given_from, is_offered_from}
-use Rattle.cm_order.proofs.trees.Trees.{or_left, or_right, and_pair, true_not_false, below_self, shut_each, not_true}
+use Rattle.cm_order.proofs.trees.Trees.{or_left, or_right, and_pair, below_self, shut_each, not_true}
 use Rattle.cm_order.proofs.levels.Gathering.{kid_shut}
 use Rattle.cm_order.proofs.names.Edges.{kid_node}
 use Rattle.cm_order.proofs.names.Sources.{kid_all, gives_same}
@@ -34,12 +35,12 @@ any_to : {A B : Type 0} (q : B → Bool) (f : A → B) (t s : A → Bool) → ((
 any_to q f t s more [] h = never h
 any_to q f t s more (x ∷ xs) h = by (t x) refl (λ later. any_to q f t s more xs later) where
   by : (b : Bool) → t x ≡ b → (IsTrue (list_any s xs) → IsTrue (list_any q (map f (filter t xs)))) → IsTrue (list_any q (map f (filter t (x ∷ xs))))
-  by true e rest = rw e (elim (or_split (s x) (list_any s xs) h) [
+  by true e rest = rw e (elim (or_cases (s x) (list_any s xs) h) [
     | inl here ↦ or_left (q (f x)) (list_any q (map f (filter t xs))) (more x here).1
     | inr later ↦ or_right (q (f x)) (list_any q (map f (filter t xs))) (rest later)
   ])
-  by false e rest = rw e (elim (or_split (s x) (list_any s xs) h) [
-    | inl here ↦ absurd (true_not_false (t x) (more x here).0 e)
+  by false e rest = rw e (elim (or_cases (s x) (list_any s xs) h) [
+    | inl here ↦ absurd (true_and_false (t x) (more x here).0 e)
     | inr later ↦ rest later
   ])
 
@@ -84,6 +85,6 @@ module _ (rows : List Row) (next : ℕ) (sound : IsSound rows next) (p : ℕ) wh
   -- a child on which one depends that isn't shut doesn't lead
   pub bound_by : (z x : ℕ) → IsKid rows p z → option_map_or (λ r. not r.shut) (row_of rows z) false ≡ true → LevelStrong rows p z x → IsFreeAt rows p x → ⊥
   bound_by z x kid unshut strong leads =
-      true_not_false (is_subtree_shut rows z) (sym (kid_shut rows next sound.orderly p z kid) ∙ leads.free z ([], inl strong))
-      (not_true (is_subtree_shut rows z) (λ all. true_not_false kid.row.shut (shut_each rows next sound.orderly z z kid.row all kid.lives (below_self rows next sound.orderly z kid.row kid.lives))
+      true_and_false (is_subtree_shut rows z) (sym (kid_shut rows next sound.orderly p z kid) ∙ leads.free z ([], inl strong))
+      (not_true (is_subtree_shut rows z) (λ all. true_and_false kid.row.shut (shut_each rows next sound.orderly z z kid.row all kid.lives (below_self rows next sound.orderly z kid.row kid.lives))
       (not-true kid.row.shut (sym (ap (λ o. option_map_or (λ r. not r.shut) o false) kid.lives) ∙ unshut))))

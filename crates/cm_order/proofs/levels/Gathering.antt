@@ -1,9 +1,11 @@
 -- What a loop over the children of a row gathers.
-use Rattle.std.proofs.Common.{◌≡◌, ℕ, ◌+◌, ◌-◌, ◌<◌, List, [], ◌∷◌, ◌++◌, Bool, true, false, cond, ◌&&◌, ◌==◌, nat_lt, true≢false, Option, Some, None, IsTrue, IsSome, find, filter, flat_map, is_some, option_map, option_and_then, refl, sym, ◌∙◌, ap, subst, inl, inr, ◌⊎◌, arith, append_assoc, append-nil}
+use Rattle.std.proofs.Common.{◌≡◌, ℕ, ◌+◌, ◌-◌, ◌<◌, List, [], ◌∷◌, ◌++◌, Bool, true, false, ◌&&◌, ◌==◌, nat_lt, true≢false, Option, Some, None, IsTrue, IsSome, find, filter, flat_map, is_some, option_map, option_and_then, refl, sym, ◌∙◌, ap, subst, inl, inr, ◌⊎◌, arith, append_assoc, append-nil}
 use Rattle.std.specs.Option.{option_map_or}
 use Rattle.std.specs.Cmp.{unsigned_Decides, second_so}
 use Rattle.std.proofs.lemmas.Bool.{lt-ltb, ltb-true, le-ltb, and_right}
 use Rattle.std.proofs.lemmas.List.Folds.{list_any-append}
+use Rattle.cm_facts.proofs.Numbers.{eq_self}
+use Rattle.cm_facts.proofs.Options.{cond_is_some}
 use Rattle.cm_decl.specs.declared.node.DynChild.{DynChild}
 use Rattle.cm_world.specs.declared.row.Row.{Row}
 use Rattle.cm_world.specs.Rows.{row_of, has_parent, is_shut, is_subtree_shut}
@@ -40,15 +42,11 @@ room_less rows next p c after orderly found =
 rows_from : (s : Row) (ss : List Row) → IsTrue (is_some (row_of (s ∷ ss) s.inc))
 rows_from s ss = rw ((unsigned_Decides s.inc s.inc).1 refl) refl
 
-rows_more : (t : Bool) (s : Row) (o : Option Row) → IsTrue (is_some o) → IsTrue (is_some (cond t (Some s) o))
-rows_more true s o there = refl
-rows_more false s o there = there
-
 -- two tests that say the same of all rows above an incarnation keep the same of them
 same_rows : (q r : Row → Bool) (b : ℕ) → ((s : Row) → b < s.inc → q s ≡ r s) → (xs : List Row) → ((i : ℕ) → IsSome (row_of xs i) → b < i) → filter q xs ≡ filter r xs
 same_rows q r b same [] above = refl
 same_rows q r b same (s ∷ ss) above =
-    keep (q s) (r s) refl refl (same s (above s.inc (rows_from s ss))) (same_rows q r b same ss (λ i there. above i (rows_more (s.inc == i) s (row_of ss i) there)))
+    keep (q s) (r s) refl refl (same s (above s.inc (rows_from s ss))) (same_rows q r b same ss (λ i there. above i (cond_is_some (s.inc == i) s (row_of ss i) there)))
   where
     keep : (t u : Bool) → q s ≡ t → r s ≡ u → q s ≡ r s → filter q ss ≡ filter r ss → filter q (s ∷ ss) ≡ filter r (s ∷ ss)
     keep true true is other both rest = rw (is, other) (ap (λ l. s ∷ l) rest)
@@ -119,9 +117,6 @@ gathered_all rows p after members are none = record {
   ];
 }
 
-same_inc : (i : ℕ) → IsTrue (i == i)
-same_inc i = (unsigned_Decides i i).1 refl
-
 one_member : (m : Member) (x : ℕ) → m.inc ≡ x → IsTrue (has_member (m ∷ []) x)
 one_member m x own = or_left (m.inc == x) false ((unsigned_Decides m.inc x).1 own)
 
@@ -132,7 +127,7 @@ new_member : (old : List Member) (m : Member) (x : ℕ) → m.inc ≡ x → IsTr
 new_member old m x own = list_any-append (λ n. n.inc == x) old (m ∷ []) ∙ or_right (has_member old x) (has_member (m ∷ []) x) (one_member m x own)
 
 pub own_shut : (rows : List Row) (p : ℕ) → is_wholly_shut rows p p ≡ is_shut rows p
-own_shut rows p = rw (same_inc p) refl
+own_shut rows p = rw (eq_self p) refl
 
 -- ---- children in collections
 

@@ -3,6 +3,7 @@ use Rattle.std.proofs.Common.{◌≡◌, ◌≢◌, ℕ, ◌<◌, List, [], ◌�
 use Rattle.std.specs.Option.{option_map_or}
 use Rattle.std.specs.Cmp.{first_so, second_so}
 use Rattle.std.proofs.lemmas.Bool.{not-true}
+use Rattle.cm_facts.proofs.Booleans.{true_and_false}
 use Rattle.cm_decl.specs.Reach.{DependencyPath}
 use Rattle.cm_decl.specs.RealmGraph.{Depends}
 use Rattle.cm_decl.proofs.Sameness.{never}
@@ -19,7 +20,7 @@ use Rattle.cm_order.specs.Search.{IsHere}
 use Rattle.cm_order.specs.declared.dependents.Dependents.{Dependents}
 use Rattle.cm_order.specs.Glances.{is_client, IsCleared, KnowsDependents, IsFreeKid, AreKidsShut}
 use Rattle.cm_order.specs.Plans.{AreShutSoFar}
-use Rattle.cm_order.proofs.trees.Trees.{kid_higher, below_kid, shut_each, shut_all, true_not_false}
+use Rattle.cm_order.proofs.trees.Trees.{kid_higher, below_kid, shut_each, shut_all}
 use Rattle.cm_order.proofs.levels.Kids.{other_kids, no_kids}
 use Rattle.cm_order.proofs.levels.Gathering.{own_shut, kid_shut}
 use Rattle.cm_order.proofs.searches.Turns.{under}
@@ -42,7 +43,7 @@ module _ (rows : List Row) (next : ℕ) (sound : IsSound rows next) (p : ℕ) wh
   cleared_client : (known : Dependents) → KnowsDependents rows p known → (c v : ℕ) → IsKid rows p c → ((z : ℕ) → is_client known.edges.clients c z ≡ false) → LevelOn rows p v c → IsCleared rows p v
   cleared_client known is c v kid none (inr implied) = absurd (apart c kid implied.own)
   cleared_client known is c v kid none (inl strong) = elim (is.clients v c (apart c kid) strong) [
-    | inl there ↦ absurd (true_not_false (is_client known.edges.clients c v) there (none v))
+    | inl there ↦ absurd (true_and_false (is_client known.edges.clients c v) there (none v))
     | inr cleared ↦ is.cleared v cleared
   ]
 

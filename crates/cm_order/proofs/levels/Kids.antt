@@ -2,6 +2,8 @@
 use Rattle.std.proofs.Common.{◌≡◌, ℕ, ◌<◌, ◌≤◌, List, [], ◌∷◌, Bool, true, false, cond, ◌&&◌, ◌==◌, nat_lt, true≢false, Option, Some, None, IsTrue, find, option_map, refl, sym, ◌∙◌, ap, subst, inl, inr, ◌⊎◌, arith}
 use Rattle.std.specs.Cmp.{unsigned_Decides, first_so, second_so}
 use Rattle.std.proofs.lemmas.Bool.{lt-ltb}
+use Rattle.cm_facts.proofs.Booleans.{true_and_false}
+use Rattle.cm_facts.proofs.Options.{option_eq_some}
 use Rattle.cm_world.specs.declared.row.Row.{Row}
 use Rattle.cm_world.specs.Rows.{row_of, has_parent}
 use Rattle.cm_world.specs.RowsInside.{is_behind, child_behind}
@@ -9,7 +11,7 @@ use Rattle.cm_world.specs.Sound.{IncarnationsIncrease, IsOrderly}
 use Rattle.cm_world.proofs.trees.Finding.{none_some, some_same, row_of-inc, find-passes}
 use Rattle.cm_world.proofs.trees.Walks.{find-lives}
 use Rattle.cm_order.specs.Kids.{IsKid}
-use Rattle.cm_order.proofs.trees.Trees.{some_eq, eq_some, and_pair, true_not_false}
+use Rattle.cm_order.proofs.trees.Trees.{eq_some, and_pair}
 
 -- the same incarnation, or one behind it
 same_or_later : (c i : ℕ) → c ≤ i → (i ≡ c) ⊎ IsTrue (nat_lt c i)
@@ -28,7 +30,7 @@ module _ (q : Row → Bool) where
         let own : s.inc ≡ i = (unsigned_Decides s.inc i).0 e in
         let same : s.inc ≡ r.inc = ap (λ z. z.inc) (some_same s r found) in omega arith
     at true false e is found =
-        let same : s ≡ z = some_same s z (rw e at lives) in true_not_false (q s) (subst (λ x. IsTrue (q x)) (sym same) passes) is
+        let same : s ≡ z = some_same s z (rw e at lives) in true_and_false (q s) (subst (λ x. IsTrue (q x)) (sym same) passes) is
     at false true e is found =
         let rest : row_of ss i ≡ Some z = rw e at lives in
         let low : s.inc < i = increasing.0.1 i (rw rest refl) in
@@ -45,7 +47,7 @@ module _ (q : Row → Bool) where
   none_by s ss i z true is more lives passes none = none_some s (sym none)
   none_by s ss i z false is more lives passes none = at (s.inc == i) refl where
     at : (b : Bool) → (s.inc == i) ≡ b → ⊥
-    at true e = let same : s ≡ z = some_same s z (rw e at lives) in true_not_false (q s) (subst (λ x. IsTrue (q x)) (sym same) passes) is
+    at true e = let same : s ≡ z = some_same s z (rw e at lives) in true_and_false (q s) (subst (λ x. IsTrue (q x)) (sym same) passes) is
     at false e = more (rw e at lives) none
 
   -- where nothing is found, no row that lives passes
@@ -76,7 +78,7 @@ module _ (rows : List Row) (next : ℕ) (orderly : IsOrderly rows next) where
         record {
           row = r;
           lives = subst (λ i. row_of rows i ≡ Some r) own (find-lives (λ r. has_parent p r && is_behind after r.inc) rows next r orderly.increasing found);
-          parent = some_eq r.parent p (first_so (has_parent p r) (is_behind after r.inc) passes);
+          parent = option_eq_some r.parent p (first_so (has_parent p r) (is_behind after r.inc) passes);
         },
         subst (λ i. IsTrue (is_behind after i)) own (second_so (has_parent p r) (is_behind after r.inc) passes),
       )

@@ -3,6 +3,7 @@ use Rattle.std.proofs.Common.{◌≡◌, ℕ, ◌<◌, List, [], ◌∷◌, Bool
 use Rattle.std.specs.Prelude.{◌↔◌}
 use Rattle.std.specs.Cmp.{unsigned_Decides}
 use Rattle.std.proofs.lemmas.Bool.{lt-ltb, ltb-true}
+use Rattle.cm_facts.proofs.Booleans.{true_and_false}
 use Rattle.cm_decl.proofs.Sameness.{never}
 use Rattle.cm_world.specs.declared.row.Row.{Row}
 use Rattle.cm_world.specs.RowsInside.{is_behind, child_behind}
@@ -13,7 +14,6 @@ use Rattle.cm_order.specs.declared.members.Member.{Member}
 use Rattle.cm_order.specs.Kids.{IsKid}
 use Rattle.cm_order.specs.Levels.{EachOfList, IsMember, has_member}
 use Rattle.cm_order.specs.Search.{IsFreeAt, LeadsNext}
-use Rattle.cm_order.proofs.trees.Trees.{true_not_false}
 use Rattle.cm_order.proofs.levels.Kids.{next_kid, other_kids, no_kids}
 
 -- ---- a member that is found
@@ -42,7 +42,7 @@ module _ (rows : List Row) (p x : ℕ) where
   pub shut_not : (m : Member) → IsMember rows p m → m.inc ≡ x → m.shut ≡ true → IsTrue false ↔ IsFreeAt rows p x
   shut_not m is own shut = (
     λ no_way. never no_way,
-    λ leads. true_not_false m.shut shut (is.shut ∙ ap (is_wholly_shut rows p) own ∙ leads.unshut),
+    λ leads. true_and_false m.shut shut (is.shut ∙ ap (is_wholly_shut rows p) own ∙ leads.unshut),
   )
 
   pub leads_by : (m : Member) (free : Bool) → IsMember rows p m → m.inc ≡ x → m.shut ≡ false → IsTrue free ↔ IsFree rows p m.inc → IsTrue free ↔ IsFreeAt rows p x

@@ -12,27 +12,26 @@ use Rattle.std.proofs.lemmas.Map.Lookups.{exact_unsigned}
 use Rattle.std.proofs.lemmas.Map.Text.{is_eq-slice_cmp}
 use Rattle.std.proofs.lemmas.List.{take_all}
 use Rattle.std.proofs.lemmas.List.Folds.{list_any_more, list_any-append}
-use Rattle.cm_decl.proofs.Sameness.{or_split, never}
+use Rattle.std.proofs.lemmas.Bool.{or_cases}
+use Rattle.cm_facts.proofs.Numbers.{eq_self}
+use Rattle.cm_decl.proofs.Sameness.{never}
 use Rattle.cm_order.specs.Glances.{is_in_list, is_client, ClientsGrow}
 use Rattle.cm_order.proofs.trees.Trees.{or_left, or_right}
 
 -- ---- a list
-
-same_inc : (x : ℕ) → IsTrue (x == x)
-same_inc x = (unsigned_Decides x x).1 refl
 
 pub listed_more : (list : List ℕ) (item z : ℕ) → IsTrue (is_in_list list z) → IsTrue (is_in_list (list ++ item ∷ []) z)
 listed_more list item z there = list_any-append (λ y. y == z) list (item ∷ []) ∙ or_left (is_in_list list z) (is_in_list (item ∷ []) z) there
 
 pub listed_last : (list : List ℕ) (item : ℕ) → IsTrue (is_in_list (list ++ item ∷ []) item)
 listed_last list item =
-    list_any-append (λ y. y == item) list (item ∷ []) ∙ or_right (is_in_list list item) (is_in_list (item ∷ []) item) (or_left (item == item) false (same_inc item))
+    list_any-append (λ y. y == item) list (item ∷ []) ∙ or_right (is_in_list list item) (is_in_list (item ∷ []) item) (or_left (item == item) false (eq_self item))
 
 -- what is in a list is there before its last item, or is that
 pub listed_parts : (list : List ℕ) (item z : ℕ) → IsTrue (is_in_list (list ++ item ∷ []) z) → IsTrue (is_in_list list z) ⊎ (z ≡ item)
-listed_parts list item z there = elim (or_split (is_in_list list z) (is_in_list (item ∷ []) z) (sym (list_any-append (λ y. y == z) list (item ∷ [])) ∙ there)) [
+listed_parts list item z there = elim (or_cases (is_in_list list z) (is_in_list (item ∷ []) z) (sym (list_any-append (λ y. y == z) list (item ∷ [])) ∙ there)) [
   | inl before ↦ inl before
-  | inr last ↦ (elim (or_split (item == z) false last) [
+  | inr last ↦ (elim (or_cases (item == z) false last) [
     | inl same ↦ inr (sym ((unsigned_Decides item z).0 same))
     | inr none ↦ never none
   ])
@@ -93,7 +92,7 @@ module _ (w : ℕ) (xs : List ℕ) where
 
   pub listing_more : (i : ℕ) (first old new : BTreeMap ℕ (List ℕ)) → i < length xs → AreListed w (take i xs) first old → ClientsGrow old new → IsTrue (is_client new (get_or xs i 0) w) → AreListed w (take (i + 1) xs) first new
   listing_more i first old new low so_far kept here = record {
-    all = λ x there. elim (or_split (list_any (λ y. y == x) (take i xs)) (get_or xs i 0 == x) (sym (list_any_more (λ y. y == x) xs i 0 low) ∙ there)) [
+    all = λ x there. elim (or_cases (list_any (λ y. y == x) (take i xs)) (get_or xs i 0 == x) (sym (list_any_more (λ y. y == x) xs i 0 low) ∙ there)) [
       | inl before ↦ kept x w (so_far.all x before)
       | inr last ↦ subst (λ z. IsTrue (is_client new z w)) ((unsigned_Decides (get_or xs i 0) x).0 last) here
     ];

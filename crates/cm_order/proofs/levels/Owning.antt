@@ -3,6 +3,7 @@ use Rattle.std.proofs.Common.{◌≡◌, ℕ, ◌<◌, List, [], ◌∷◌, Bool
 use Rattle.std.specs.Prelude.{◌↔◌}
 use Rattle.std.specs.List.{list_any}
 use Rattle.std.specs.Option.{option_map_or}
+use Rattle.cm_facts.proofs.Booleans.{true_and_false, false_iff}
 use Rattle.cm_decl.specs.declared.decl.Decl.{Decl}
 use Rattle.cm_decl.specs.declared.rows.Usage.{Usage}
 use Rattle.cm_decl.specs.Graph.{is_strong, is_from_child, own_sources}
@@ -16,12 +17,11 @@ use Rattle.cm_world.proofs.trees.Levels.{edge_source}
 use Rattle.cm_order.specs.Kids.{IsKid}
 use Rattle.cm_order.specs.Search.{IsFreeAt}
 use Rattle.cm_order.specs.Glances.{AreKidsShut, HasKidLeft}
-use Rattle.cm_order.proofs.trees.Trees.{kid_higher, true_not_false}
+use Rattle.cm_order.proofs.trees.Trees.{kid_higher}
 use Rattle.cm_order.proofs.levels.Gathering.{own_shut, kid_shut}
 use Rattle.cm_order.proofs.levels.Glancing.{free_by}
 use Rattle.cm_order.proofs.names.Edges.{kid_node}
 use Rattle.cm_order.proofs.names.Sources.{any_from, next_none, own_all}
-use Rattle.cm_order.proofs.searches.Choosing.{never_so}
 
 -- what the declaration of a row says of its uses
 pub uses_by : (rows : List Row) (i : ℕ) (d : Decl) (uses : List Usage) (b : Bool) → Some d ≡ decl_of rows i → uses ≡ d.uses → b ≡ list_any (λ u. is_strong u.dependency && is_from_child u.from) uses → b ≡ option_map_or (λ d. list_any (λ u. is_strong u.dependency && is_from_child u.from) d.uses) (decl_of rows i) false
@@ -35,7 +35,7 @@ module _ (rows : List Row) (next : ℕ) (sound : IsSound rows next) (p : ℕ) wh
   no_edge x (Some d) found none strong =
       let from : IsTrue (list_any (is_from_row rows p x) (own_sources d)) =
       sym (ap (list_any (is_from_row rows p x)) (own_all rows next sound p d found)) ∙ edge_source rows p p x strong in
-      true_not_false (list_any (λ u. is_strong u.dependency && is_from_child u.from) d.uses)
+      true_and_false (list_any (λ u. is_strong u.dependency && is_from_child u.from) d.uses)
       (any_from (is_from_row rows p x) (λ (u : Usage). u.from) (λ u. is_strong u.dependency && is_from_child u.from) (λ u. is_strong u.dependency && is_from_child u.from) (λ u passes comes. passes) d.uses from) none
 
   first_step : (x : ℕ) (xs : List ℕ) (y : ℕ) → DependencyPath (LevelStrong rows p) x xs y → (z : ℕ) × LevelStrong rows p x z
@@ -44,8 +44,8 @@ module _ (rows : List Row) (next : ℕ) (sound : IsSound rows next) (p : ℕ) wh
 
   -- so each child depends on it
   pub own_bound : HasKidLeft rows p → option_map_or (λ d. list_any (λ u. is_strong u.dependency && is_from_child u.from) d.uses) (decl_of rows p) false ≡ false → IsTrue false ↔ IsFreeAt rows p p
-  own_bound yet none = never_so (λ it.
-      true_not_false (is_wholly_shut rows p yet.child)
+  own_bound yet none = false_iff (λ it.
+      true_and_false (is_wholly_shut rows p yet.child)
       (it.free yet.child (
         [],
         inr (record {
@@ -59,7 +59,7 @@ module _ (rows : List Row) (next : ℕ) (sound : IsSound rows next) (p : ℕ) wh
       (kid_shut rows next sound.orderly p yet.child yet.kid ∙ yet.unshut))
 
   pub own_gone : is_shut rows p ≡ true → IsTrue false ↔ IsFreeAt rows p p
-  own_gone shut = never_so (λ it. true_not_false (is_wholly_shut rows p p) (own_shut rows p ∙ shut) it.unshut)
+  own_gone shut = false_iff (λ it. true_and_false (is_wholly_shut rows p p) (own_shut rows p ∙ shut) it.unshut)
 
   pub own_leads_last : is_shut rows p ≡ false → AreKidsShut rows p → IsTrue true ↔ IsFreeAt rows p p
   own_leads_last unshut kids = (
@@ -70,4 +70,4 @@ module _ (rows : List Row) (next : ℕ) (sound : IsSound rows next) (p : ℕ) wh
   -- ---- a child
 
   pub kid_gone : (c : ℕ) → IsKid rows p c → is_subtree_shut rows c ≡ true → IsTrue false ↔ IsFreeAt rows p c
-  kid_gone c kid shut = never_so (λ it. true_not_false (is_wholly_shut rows p c) (kid_shut rows next sound.orderly p c kid ∙ shut) it.unshut)
+  kid_gone c kid shut = false_iff (λ it. true_and_false (is_wholly_shut rows p c) (kid_shut rows next sound.orderly p c kid ∙ shut) it.unshut)

@@ -4,7 +4,12 @@ use Rattle.std.specs.List.{list_any}
 use Rattle.std.specs.Str.{bytes_eq}
 use Rattle.std.specs.Option.{option_map_or, option_eq}
 use Rattle.std.specs.Cmp.{unsigned_Decides, first_so, second_so}
+use Rattle.std.proofs.lemmas.Bool.{or_cases}
 use Rattle.cm_names.specs.declared.child.ChildName.{ChildName}
+use Rattle.cm_facts.proofs.Numbers.{eq_self}
+use Rattle.cm_facts.proofs.Booleans.{true_and_false}
+use Rattle.cm_facts.proofs.Options.{option_eq_some}
+use Rattle.cm_facts.proofs.Lists.{list_any_agree}
 use Rattle.cm_decl.specs.declared.decl.Decl.{Decl}
 use Rattle.cm_decl.specs.declared.rows.Give.{Give}
 use Rattle.cm_decl.specs.declared.origin.Origin.{Origin}
@@ -16,7 +21,7 @@ use Rattle.cm_decl.specs.Reach.{DependencyPath, Reaches, NoCycle}
 use Rattle.cm_decl.specs.RealmGraph.{Directly, Depends}
 use Rattle.cm_decl.specs.Graph.{is_node, is_from_node, is_strong, sources_of, child_sources, StrongOn}
 use Rattle.cm_decl.specs.GraphInside.{realm, DependsOn, WouldDirectly, WouldDepend}
-use Rattle.cm_decl.proofs.Sameness.{or_split, never, same_child_exact}
+use Rattle.cm_decl.proofs.Sameness.{never, same_child_exact}
 use Rattle.cm_decl.proofs.orders.Orders.{edge_nodes}
 use Rattle.cm_deps.proofs.loops.Ways.{last_step}
 use Rattle.cm_world.specs.declared.row.Row.{Row}
@@ -31,12 +36,9 @@ use Rattle.cm_order.specs.declared.members.Member.{Member}
 use Rattle.cm_order.specs.Kids.{IsKid}
 use Rattle.cm_order.specs.Names.{dynamic_children}
 use Rattle.cm_order.specs.Levels.{EachOfList, IsMember, AreMembers, has_member, RowWould, MemberDepends, LeavesFree}
-use Rattle.cm_order.proofs.trees.Trees.{kid_higher, some_eq, eq_some, or_left, or_right, and_pair, not_true, true_not_false}
-use Rattle.cm_order.proofs.names.Listing.{any_some, any_same}
+use Rattle.cm_order.proofs.trees.Trees.{kid_higher, eq_some, or_left, or_right, and_pair, not_true}
+use Rattle.cm_order.proofs.names.Listing.{any_some}
 use Rattle.cm_order.proofs.names.Naming.{IsDoomedKid, IsNamed, itself, child, child_refl, name_once, not_itself, node_once, row_once, found_kid, kid_found, kid_not_own, kept_named, kept_doomed, row_node, node_row, gives_same}
-
-eq_self : (i : ℕ) → (i == i) ≡ true
-eq_self i = (unsigned_Decides i i).1 refl
 
 live_by : (o : Option Row) (d : Decl) → option_and_then (λ r. r.decl) o ≡ Some d → IsTrue (is_some o)
 live_by None d e = absurd (none_some d e)
@@ -49,11 +51,11 @@ kid_node rows p x kid =
 
 pub kid_by : (rows : List Row) (p x : ℕ) (o : Option Row) → row_of rows x ≡ o → IsTrue (option_map_or (has_parent p) o false) → IsKid rows p x
 kid_by rows p x None lives h = never h
-kid_by rows p x (Some r) lives h = record { row = r; lives = lives; parent = some_eq r.parent p h }
+kid_by rows p x (Some r) lives h = record { row = r; lives = lives; parent = option_eq_some r.parent p h }
 
 -- a node of the level is p itself, or a child row
 pub node_kid : (rows : List Row) (p x : ℕ) → IsTrue (is_level_node rows p x) → (x ≡ p) ⊎ IsKid rows p x
-node_kid rows p x node = elim (or_split (x == p && is_live rows p) (is_child_row rows p x) node) [
+node_kid rows p x node = elim (or_cases (x == p && is_live rows p) (is_child_row rows p x) node) [
   | inl own ↦ inl ((unsigned_Decides x p).0 (first_so (x == p) (is_live rows p) own))
   | inr kid ↦ inr (kid_by rows p x (row_of rows x) refl kid)
 ]
@@ -73,7 +75,7 @@ module _ (rows : List Row) (next : ℕ) (sound : IsSound rows next) (p : ℕ) (d
   -- whether a source is a row, and whether it is its node
   from_row : (y : ℕ) (m : Node) → IsNamed rows p y m → (s : Origin) → is_from_row rows p y s ≡ is_from_node m s
   from_row _ _ itself origin.Own = eq_self p
-  from_row _ _ itself (origin.Child c) = not_true (option_eq nat_eq (child_of rows p c) (Some p)) (λ e. not_itself rows next sound.orderly p c (found_kid rows next sound.orderly p c p (some_eq (child_of rows p c) p e)))
+  from_row _ _ itself (origin.Child c) = not_true (option_eq nat_eq (child_of rows p c) (Some p)) (λ e. not_itself rows next sound.orderly p c (found_kid rows next sound.orderly p c p (option_eq_some (child_of rows p c) p e)))
   from_row _ _ itself origin.Parent = refl
   from_row _ _ itself origin.Framework = refl
   from_row _ _ itself origin.Void = refl
@@ -83,8 +85,8 @@ module _ (rows : List Row) (next : ℕ) (sound : IsSound rows next) (p : ℕ) (d
     by true same = eq_some (child_of rows p e) x (ap (child_of rows p) (same_child_exact e c same) ∙ kid_found rows next sound.orderly p c x kid) ∙ sym same
     by false other =
         not_true (option_eq nat_eq (child_of rows p e) (Some x)) (λ is.
-        let same : e ≡ c = name_once rows next sound.orderly p x e c (found_kid rows next sound.orderly p e x (some_eq (child_of rows p e) x is)) kid in
-        true_not_false (same_child c c) (child_refl c) (subst (λ z. same_child z c ≡ false) same other)) ∙ sym other
+        let same : e ≡ c = name_once rows next sound.orderly p x e c (found_kid rows next sound.orderly p e x (option_eq_some (child_of rows p e) x is)) kid in
+        true_and_false (same_child c c) (child_refl c) (subst (λ z. same_child z c ≡ false) same other)) ∙ sym other
   from_row _ _ (child x c kid) origin.Parent = refl
   from_row _ _ (child x c kid) origin.Framework = refl
   from_row _ _ (child x c kid) origin.Void = refl
@@ -105,7 +107,7 @@ module _ (rows : List Row) (next : ℕ) (sound : IsSound rows next) (p : ℕ) (d
   edge_names : (x y : ℕ) (n m : Node) → IsNamed rows p x n → IsNamed rows p y m → LevelStrong rows p x y → StrongOn d (dynamic_children rows p) n m
   edge_names x y n m first second strong =
       let from : IsTrue (list_any (is_from_node m) (sources_of d (dynamic_children rows p) n)) =
-      sym (any_same (is_from_row rows p y) (is_from_node m) (sources_of d (dynamic_children rows p) n) (from_row y m second)) ∙ sym (ap (list_any (is_from_row rows p y)) (same_sources x n first)) ∙ edge_source rows p x y strong in
+      sym (list_any_agree (is_from_row rows p y) (is_from_node m) (from_row y m second) (sources_of d (dynamic_children rows p) n)) ∙ sym (ap (list_any (is_from_row rows p y)) (same_sources x n first)) ∙ edge_source rows p x y strong in
       and_pair (list_any (is_from_node m) (sources_of d (dynamic_children rows p) n) && is_node d (dynamic_children rows p) n) (is_node d (dynamic_children rows p) m)
       (and_pair (list_any (is_from_node m) (sources_of d (dynamic_children rows p) n)) (is_node d (dynamic_children rows p) n) from (row_node rows next sound p d found x n first))
       (row_node rows next sound p d found y m second)
@@ -116,14 +118,14 @@ module _ (rows : List Row) (next : ℕ) (sound : IsSound rows next) (p : ℕ) (d
       first_so (list_any (is_from_node m) (sources_of d (dynamic_children rows p) n)) (is_node d (dynamic_children rows p) n)
       (first_so (list_any (is_from_node m) (sources_of d (dynamic_children rows p) n) && is_node d (dynamic_children rows p) n) (is_node d (dynamic_children rows p) m) strong) in
       let from : IsTrue (list_any (is_from_row rows p y) (level_sources rows p x)) =
-      ap (list_any (is_from_row rows p y)) (same_sources x n first) ∙ any_same (is_from_row rows p y) (is_from_node m) (sources_of d (dynamic_children rows p) n) (from_row y m second) ∙ named in
+      ap (list_any (is_from_row rows p y)) (same_sources x n first) ∙ list_any_agree (is_from_row rows p y) (is_from_node m) (from_row y m second) (sources_of d (dynamic_children rows p) n) ∙ named in
       and_pair (list_any (is_from_row rows p y) (level_sources rows p x) && is_level_node rows p x) (is_level_node rows p y)
       (and_pair (list_any (is_from_row rows p y) (level_sources rows p x)) (is_level_node rows p x) from (level_node x n first))
       (level_node y m second)
 
   source_named : (y : ℕ) (s : Origin) → IsTrue (is_from_row rows p y s) → (m : Node) × IsNamed rows p y m
   source_named y origin.Own is = (Own, subst (λ z. IsNamed rows p z Own) (sym ((unsigned_Decides y p).0 is)) itself)
-  source_named y (origin.Child c) is = (Child c, child y c (found_kid rows next sound.orderly p c y (some_eq (child_of rows p c) y is)))
+  source_named y (origin.Child c) is = (Child c, child y c (found_kid rows next sound.orderly p c y (option_eq_some (child_of rows p c) y is)))
   source_named y origin.Parent is = never is
   source_named y origin.Framework is = never is
   source_named y origin.Void is = never is
@@ -260,7 +262,7 @@ module _ (rows : List Row) (next : ℕ) (sound : IsSound rows next) (p : ℕ) (d
   would_first : (x : ℕ) (c : ChildName) (coll : List ℕ) (doomed : IsDoomedKid rows p x) → doomed.kid.row.name ≡ Some c → c.coll ≡ Some coll → (w : ℕ) (q : Node) → IsNamed rows p w q → LevelOn rows p x w → WouldDirectly d (dynamic_children rows p) coll doomed.kid.row.gives q
   would_first x c coll doomed name inside w q named (inl strong) =
       let from : IsTrue (list_any (is_from_node q) (child_sources d (record { coll = Some coll; name = [] }) doomed.kid.row.gives)) =
-      sym (ap (list_any (is_from_node q)) (further_sources c coll doomed.kid.row.gives inside)) ∙ sym (any_same (is_from_row rows p w) (is_from_node q) (child_sources d c doomed.kid.row.gives) (from_row w q named)) ∙ sym (ap (list_any (is_from_row rows p w)) (kid_sources x c doomed.kid name)) ∙ edge_source rows p x w strong in
+      sym (ap (list_any (is_from_node q)) (further_sources c coll doomed.kid.row.gives inside)) ∙ sym (list_any_agree (is_from_row rows p w) (is_from_node q) (from_row w q named) (child_sources d c doomed.kid.row.gives)) ∙ sym (ap (list_any (is_from_row rows p w)) (kid_sources x c doomed.kid name)) ∙ edge_source rows p x w strong in
       inl (and_pair (list_any (is_from_node q) (child_sources d (record { coll = Some coll; name = [] }) doomed.kid.row.gives)) (is_node d (dynamic_children rows p) q) from (row_node rows next sound p d found w q named))
   would_first x c coll doomed name inside w q named (inr implied) =
       inr (node_once rows next sound.orderly p p q Own (subst (λ z. IsNamed rows p z q) implied.own named) itself)
@@ -270,7 +272,7 @@ module _ (rows : List Row) (next : ℕ) (sound : IsSound rows next) (p : ℕ) (d
       let node : IsTrue (is_node d (dynamic_children rows p) q) = second_so (list_any (is_from_node q) (child_sources d (record { coll = Some coll; name = [] }) doomed.kid.row.gives)) (is_node d (dynamic_children rows p) q) both in
       let row : (w : ℕ) × IsNamed rows p w q = node_row rows next sound p d found q node in
       let from : IsTrue (list_any (is_from_row rows p row.0) (level_sources rows p x)) =
-      ap (list_any (is_from_row rows p row.0)) (kid_sources x c doomed.kid name) ∙ any_same (is_from_row rows p row.0) (is_from_node q) (child_sources d c doomed.kid.row.gives) (from_row row.0 q row.1) ∙ ap (list_any (is_from_node q)) (further_sources c coll doomed.kid.row.gives inside)
+      ap (list_any (is_from_row rows p row.0)) (kid_sources x c doomed.kid name) ∙ list_any_agree (is_from_row rows p row.0) (is_from_node q) (from_row row.0 q row.1) (child_sources d c doomed.kid.row.gives) ∙ ap (list_any (is_from_node q)) (further_sources c coll doomed.kid.row.gives inside)
       ∙ first_so (list_any (is_from_node q) (child_sources d (record { coll = Some coll; name = [] }) doomed.kid.row.gives)) (is_node d (dynamic_children rows p) q) both in (
         row.0,
         row.1,
@@ -284,7 +286,7 @@ module _ (rows : List Row) (next : ℕ) (sound : IsSound rows next) (p : ℕ) (d
     inr (record {
       acyclic = sound.acyclic p;
       node = kid_node rows p x doomed.kid;
-      child = λ same. true_not_false (x == p) ((unsigned_Decides x p).1 same) (kid_not_own rows next sound.orderly p x doomed.kid);
+      child = λ same. true_and_false (x == p) ((unsigned_Decides x p).1 same) (kid_not_own rows next sound.orderly p x doomed.kid);
       apart = no_strong_way p x doomed;
       own = refl;
     }),
@@ -367,7 +369,7 @@ module _ (rows : List Row) (next : ℕ) (sound : IsSound rows next) (p : ℕ) (d
 
   shut_by : (x z : ℕ) (n : Node) → IsNamed rows p x n → Depends (level rows p) z x → (ms : List Member) → EachOfList (IsMember rows p) ms → EachOfList (LeavesFree rows d (dynamic_children rows p) n) ms → IsTrue (has_member ms z) → IsTrue (is_wholly_shut rows p z)
   shut_by x z n named way [] all leave there = never there
-  shut_by x z n named way (m ∷ ms) all leave there = elim (or_split (m.inc == z) (has_member ms z) there) [
+  shut_by x z n named way (m ∷ ms) all leave there = elim (or_cases (m.inc == z) (has_member ms z) there) [
     | inl here ↦
         let own : m.inc ≡ z = (unsigned_Decides m.inc z).0 here in
         subst (λ i. IsTrue (is_wholly_shut rows p i)) own (sym all.0.shut ∙ leave.0 (member_names x n named m all.0 m.node refl (subst (λ i. Depends (level rows p) i x) (sym own) way)))

@@ -2,10 +2,11 @@
 use Rattle.std.proofs.Common.{◌≡◌, ◌≢◌, ℕ, zero, suc, ◌+◌, ◌<◌, ◌≤◌, List, [], ◌∷◌, Bool, true, false, not, ◌||◌, ◌==◌, true≢false, Some, IsTrue, filter, length, refl, sym, ◌∙◌, ap, subst, inl, inr, ◌⊎◌, arith}
 use Rattle.std.specs.List.{list_any}
 use Rattle.std.specs.Cmp.{unsigned_Decides}
+use Rattle.std.proofs.lemmas.Bool.{or_cases}
 use Rattle.cm_decl.specs.Reach.{DependencyPath, Reaches, NoCycle}
 use Rattle.cm_decl.specs.RealmGraph.{RealmGraph, Strong, IsImplied, Directly}
 use Rattle.cm_decl.proofs.cycles.Reaching.{Reaches-trans}
-use Rattle.cm_decl.proofs.Sameness.{or_split, never}
+use Rattle.cm_decl.proofs.Sameness.{never}
 use Rattle.cm_deps.proofs.loops.Ways.{DependencyPath-snoc}
 use Rattle.cm_world.specs.declared.row.Row.{Row}
 use Rattle.cm_world.specs.Rows.{row_of}
@@ -123,7 +124,7 @@ module _ (rows : List Row) (On : ℕ → ℕ → Type 0) (there : (x y : ℕ) �
   reach_more s x y (inr way) on = (_, DependencyPath-snoc On s way.0 x y way.1 on)
 
   seen_more : (seen : List ℕ) (x y : ℕ) → ((s : ℕ) → IsTrue (list_any (λ i. i == s) seen) → Reaches On s x) → On x y → (s : ℕ) → IsTrue (list_any (λ i. i == s) (x ∷ seen)) → Reaches On s y
-  seen_more seen x y reach on s is = elim (or_split (x == s) (list_any (λ i. i == s) seen) is) [
+  seen_more seen x y reach on s is = elim (or_cases (x == s) (list_any (λ i. i == s) seen) is) [
     | inl same ↦ reach_more s x y (inl (sym ((unsigned_Decides x s).0 same))) on
     | inr old ↦ reach_more s x y (inr (reach s old)) on
   ]

@@ -1,12 +1,13 @@
 -- Tests on lists, and what the rows of a list that pass one make together.
-use Rattle.std.proofs.Common.{◌≡◌, ◌≢◌, ℕ, ◌<◌, List, [], ◌∷◌, ◌++◌, Bool, true, false, cond, ◌&&◌, ◌||◌, ◌==◌, true≢false, Some, IsTrue, find, filter, flat_map, map, count_by, length, refl, sym, ◌∙◌, ap, subst, inl, inr, arith, append-nil}
+use Rattle.std.proofs.Common.{◌≡◌, ◌≢◌, ℕ, ◌<◌, List, [], ◌∷◌, ◌++◌, Bool, true, false, cond, ◌&&◌, ◌||◌, ◌==◌, true≢false, Some, IsTrue, find, filter, flat_map, count_by, length, refl, sym, ◌∙◌, ap, subst, inl, inr, arith, append-nil}
 use Rattle.std.specs.List.{list_any}
 use Rattle.std.specs.Cmp.{unsigned_Decides}
 use Rattle.std.proofs.lemmas.List.Folds.{list_any-append}
 use Rattle.std.proofs.lemmas.List.Elements.{filter-append}
 use Rattle.std.proofs.lemmas.List.Sums.{length-filter}
 use Rattle.std.proofs.lemmas.Grind.{flat_map-append}
-use Rattle.cm_decl.proofs.Sameness.{or_split, never}
+use Rattle.std.proofs.lemmas.Bool.{or_cases}
+use Rattle.cm_decl.proofs.Sameness.{never}
 use Rattle.cm_world.specs.declared.row.Row.{Row}
 use Rattle.cm_world.specs.Rows.{row_of}
 use Rattle.cm_world.specs.Sound.{IncarnationsIncrease}
@@ -17,15 +18,7 @@ use Rattle.cm_order.proofs.trees.Trees.{or_left, or_right}
 -- one that passes
 pub any_some : {A : Type 0} (q : A → Bool) (xs : List A) → IsTrue (list_any q xs) → (x : A) × IsTrue (q x)
 any_some q [] h = never h
-any_some q (x ∷ xs) h = elim (or_split (q x) (list_any q xs) h) [ inl here ↦ (x, here) | inr later ↦ any_some q xs later ]
-
-pub any_same : {A : Type 0} (q r : A → Bool) (xs : List A) → ((x : A) → q x ≡ r x) → list_any q xs ≡ list_any r xs
-any_same q r [] same = refl
-any_same q r (x ∷ xs) same = ap (λ b. b || list_any q xs) (same x) ∙ ap (λ b. r x || b) (any_same q r xs same)
-
-pub any_map : {A B : Type 0} (q : B → Bool) (f : A → B) (xs : List A) → list_any q (map f xs) ≡ list_any (λ x. q (f x)) xs
-any_map q f [] = refl
-any_map q f (x ∷ xs) = ap (λ b. q (f x) || b) (any_map q f xs)
+any_some q (x ∷ xs) h = elim (or_cases (q x) (list_any q xs) h) [ inl here ↦ (x, here) | inr later ↦ any_some q xs later ]
 
 -- what passes of what the rows of a list that pass another test make
 pub any_flat : {A B : Type 0} (q : B → Bool) (f : A → List B) (t : A → Bool) (xs : List A) → list_any q (flat_map f (filter t xs)) ≡ list_any (λ x. t x && list_any q (f x)) xs

@@ -4,8 +4,10 @@ use Rattle.std.specs.List.{list_any}
 use Rattle.std.specs.Option.{option_map_or, option_eq}
 use Rattle.std.specs.Cmp.{unsigned_Decides, first_so, second_so}
 use Rattle.std.proofs.lemmas.List.Folds.{list_any-append}
-use Rattle.std.proofs.lemmas.Bool.{not-true}
+use Rattle.std.proofs.lemmas.Bool.{not-true, or_cases}
 use Rattle.cm_names.specs.declared.child.ChildName.{ChildName}
+use Rattle.cm_facts.proofs.Options.{option_eq_some}
+use Rattle.cm_facts.proofs.Lists.{list_any_map}
 use Rattle.cm_decl.specs.declared.decl.Decl.{Decl}
 use Rattle.cm_decl.specs.declared.rows.Child.{Child as DeclaredChild}
 use Rattle.cm_decl.specs.declared.rows.Give.{Give}
@@ -14,7 +16,7 @@ use Rattle.cm_decl.specs.declared.node.Node.{Node}
 use Rattle.cm_decl.specs.declared.node.Node.TheVariants.{Own, Child}
 use Rattle.cm_decl.specs.Same.{same_child, same_node}
 use Rattle.cm_decl.specs.Graph.{is_node, static_name, static_node, dynamic_node, gives_of}
-use Rattle.cm_decl.proofs.Sameness.{or_split, never, same_node-refl, same_child_exact}
+use Rattle.cm_decl.proofs.Sameness.{never, same_node-refl, same_child_exact}
 use Rattle.cm_world.specs.declared.row.Row.{Row}
 use Rattle.cm_world.specs.Rows.{row_of, decl_of, has_parent, has_name, child_of}
 use Rattle.cm_world.specs.RowsInside.{is_behind}
@@ -23,9 +25,9 @@ use Rattle.cm_world.proofs.trees.Finding.{none_some, some_same, find-passes}
 use Rattle.cm_world.proofs.trees.Walks.{find-lives}
 use Rattle.cm_order.specs.Kids.{IsKid}
 use Rattle.cm_order.specs.Names.{child_node, node_in, in_collection, dynamic_child, dynamic_children}
-use Rattle.cm_order.proofs.trees.Trees.{kid_higher, some_eq, eq_some, or_left, or_right, and_pair, not_true, not_flip}
+use Rattle.cm_order.proofs.trees.Trees.{kid_higher, eq_some, or_left, or_right, and_pair, not_true, not_flip}
 use Rattle.cm_order.proofs.levels.Kids.{none_found}
-use Rattle.cm_order.proofs.names.Listing.{any_some, any_map, any_flat, any_row, row_any, any_counts, counts_any, flat_flat, only_row}
+use Rattle.cm_order.proofs.names.Listing.{any_some, any_flat, any_row, row_any, any_counts, counts_any, flat_flat, only_row}
 
 -- ---- names
 
@@ -102,7 +104,7 @@ module _ (rows : List Row) (next : ℕ) (orderly : IsOrderly rows next) (p : ℕ
 
   passes_name : (c : ChildName) (r : Row) → IsTrue (has_parent p r && has_name c r && not r.doomed) → (r.parent ≡ Some p) × (r.name ≡ Some c) × (r.doomed ≡ false)
   passes_name c r h = (
-    some_eq r.parent p (first_so (has_parent p r) (has_name c r) (first_so (has_parent p r && has_name c r) (not r.doomed) h)),
+    option_eq_some r.parent p (first_so (has_parent p r) (has_name c r) (first_so (has_parent p r && has_name c r) (not r.doomed) h)),
     some_name r.name c (second_so (has_parent p r) (has_name c r) (first_so (has_parent p r && has_name c r) (not r.doomed) h)),
     not-true r.doomed (second_so (has_parent p r && has_name c r) (not r.doomed) h),
   )
@@ -196,7 +198,7 @@ module _ (rows : List Row) (next : ℕ) (sound : IsSound rows next) (p : ℕ) (d
       let parent : IsTrue (has_parent p row.0) = first_so (has_parent p row.0) (has_name (static_name one.0.name) row.0) row.2 in
       let name : row.0.name ≡ Some (static_name one.0.name) = some_name row.0.name (static_name one.0.name) (second_so (has_parent p row.0) (has_name (static_name one.0.name) row.0) row.2) in
       let kept : (row.0.doomed ≡ false) × (row.0.gives ≡ []) = static.kept row.0.inc row.0 row.1 (and_pair (has_parent p row.0) (option_map_or (λ c. is_none c.coll) row.0.name false) parent (subst (λ o. IsTrue (option_map_or (λ c. is_none c.coll) o false)) (sym name) refl)) in
-      (row.0.inc, kid_of_row rows next sound.orderly p c row.0 row.1 (some_eq row.0.parent p parent) (name ∙ ap Some same) kept.0)
+      (row.0.inc, kid_of_row rows next sound.orderly p c row.0 row.1 (option_eq_some row.0.parent p parent) (name ∙ ap Some same) kept.0)
 
   -- a row whose name has no collection is declared
   row_static : (x : ℕ) (c : ChildName) → IsNamedKid rows p x c → c.coll ≡ None → IsTrue (list_any (λ k. same_child (static_name k.name) c) d.children)
@@ -215,7 +217,7 @@ module _ (rows : List Row) (next : ℕ) (sound : IsSound rows next) (p : ℕ) (d
   listed_by c r false None doomed name h = never h
   listed_by c r false (Some e) doomed name h = (doomed, name ∙ ap Some (same_child_exact e c (at (is_some e.coll) h))) where
     at : (t : Bool) → IsTrue (list_any (λ (k : DynChild). same_child k.name c) (cond t (record { name = e; gives = r.gives } ∷ []) [])) → IsTrue (same_child e c)
-    at true h = elim (or_split (same_child e c) false h) [ inl same ↦ same | inr no_way ↦ never no_way ]
+    at true h = elim (or_cases (same_child e c) false h) [ inl same ↦ same | inr no_way ↦ never no_way ]
     at false h = never h
 
   dynamic_row : (c : ChildName) → IsTrue (list_any (λ k. same_child k.name c) (dynamic_children rows p)) → (x : ℕ) × IsNamedKid rows p x c
@@ -224,7 +226,7 @@ module _ (rows : List Row) (next : ℕ) (sound : IsSound rows next) (p : ℕ) (d
       any_row (λ r. (has_parent p r && is_behind None r.inc) && list_any (λ k. same_child k.name c) (dynamic_child r)) rows next sound.orderly.increasing (sym (any_flat (λ k. same_child k.name c) dynamic_child (λ r. has_parent p r && is_behind None r.inc) rows) ∙ listed) in
       let test : IsTrue (has_parent p row.0 && is_behind None row.0.inc) = first_so (has_parent p row.0 && is_behind None row.0.inc) (list_any (λ k. same_child k.name c) (dynamic_child row.0)) row.2 in
       let is : (row.0.doomed ≡ false) × (row.0.name ≡ Some c) = listed_by c row.0 row.0.doomed row.0.name refl refl (second_so (has_parent p row.0 && is_behind None row.0.inc) (list_any (λ k. same_child k.name c) (dynamic_child row.0)) row.2) in
-      (row.0.inc, kid_of_row rows next sound.orderly p c row.0 row.1 (some_eq row.0.parent p (first_so (has_parent p row.0) (is_behind None row.0.inc) test)) is.1 is.0)
+      (row.0.inc, kid_of_row rows next sound.orderly p c row.0 row.1 (option_eq_some row.0.parent p (first_so (has_parent p row.0) (is_behind None row.0.inc) test)) is.1 is.0)
 
   -- what a child row that isn't doomed is listed as
   listed_as : (r : Row) (c : ChildName) → r.doomed ≡ false → r.name ≡ Some c → dynamic_child r ≡ in_collection c r.gives
@@ -245,8 +247,8 @@ module _ (rows : List Row) (next : ℕ) (sound : IsSound rows next) (p : ℕ) (d
   node_parts : (c : ChildName) → is_node d (dynamic_children rows p) (Child c) ≡ (list_any (λ k. same_child (static_name k.name) c) d.children || list_any (λ k. same_child k.name c) (dynamic_children rows p))
   node_parts c =
       list_any-append (λ y. same_node y (Child c)) (Own ∷ map static_node d.children) (map dynamic_node (dynamic_children rows p))
-      ∙ ap (λ b. b || list_any (λ y. same_node y (Child c)) (map dynamic_node (dynamic_children rows p))) (any_map (λ y. same_node y (Child c)) static_node d.children)
-      ∙ ap (λ b. list_any (λ k. same_child (static_name k.name) c) d.children || b) (any_map (λ y. same_node y (Child c)) dynamic_node (dynamic_children rows p))
+      ∙ ap (λ b. b || list_any (λ y. same_node y (Child c)) (map dynamic_node (dynamic_children rows p))) (list_any_map (λ y. same_node y (Child c)) static_node d.children)
+      ∙ ap (λ b. list_any (λ k. same_child (static_name k.name) c) d.children || b) (list_any_map (λ y. same_node y (Child c)) dynamic_node (dynamic_children rows p))
 
   -- a row with a node is one of the graph by names
   pub row_node : (x : ℕ) (n : Node) → IsNamed rows p x n → IsTrue (is_node d (dynamic_children rows p) n)
@@ -259,7 +261,7 @@ module _ (rows : List Row) (next : ℕ) (sound : IsSound rows next) (p : ℕ) (d
   -- and each node of that graph is a row's
   pub node_row : (n : Node) → IsTrue (is_node d (dynamic_children rows p) n) → (x : ℕ) × IsNamed rows p x n
   node_row Own h = (p, itself)
-  node_row (Child c) h = elim (or_split (list_any (λ k. same_child (static_name k.name) c) d.children) (list_any (λ k. same_child k.name c) (dynamic_children rows p)) (sym (node_parts c) ∙ h)) [
+  node_row (Child c) h = elim (or_cases (list_any (λ k. same_child (static_name k.name) c) d.children) (list_any (λ k. same_child k.name c) (dynamic_children rows p)) (sym (node_parts c) ∙ h)) [
     | inl declared ↦ (let row : (x : ℕ) × IsNamedKid rows p x c = static_row c declared in (row.0, child row.0 c row.1))
     | inr listed ↦ (let row : (x : ℕ) × IsNamedKid rows p x c = dynamic_row c listed in (row.0, child row.0 c row.1))
   ]
@@ -285,7 +287,7 @@ module _ (rows : List Row) (next : ℕ) (sound : IsSound rows next) (p : ℕ) (d
     by false e = refl
     by true e =
         others_give c s s.doomed s.name refl refl (λ b there name. not_true (same_child b c) (λ same.
-        let parent : s.parent ≡ Some p = some_eq s.parent p (first_so (has_parent p s) (is_behind None s.inc) e) in
+        let parent : s.parent ≡ Some p = option_eq_some s.parent p (first_so (has_parent p s) (is_behind None s.inc) e) in
         apart (sound.orderly.one_name j x s kid.kid.row lives kid.kid.lives there kid.there (parent ∙ sym kid.kid.parent) (name ∙ ap Some (same_child_exact b c same) ∙ sym kid.name))))
 
   own_by : (x : ℕ) (c : ChildName) (kid : IsNamedKid rows p x c) (o : Option (List ℕ)) → c.coll ≡ o → flat_map (λ k. k.gives) (filter (λ k. same_child k.name c) (in_collection c kid.kid.row.gives)) ≡ kid.kid.row.gives

@@ -6,13 +6,14 @@ use Rattle.std.specs.Cmp.{unsigned_Decides, first_so, second_so}
 use Rattle.std.specs.Str.{bytes_eq}
 use Rattle.std.proofs.lemmas.List.{take_all}
 use Rattle.std.proofs.lemmas.List.Folds.{list_any_more, list_any-append}
+use Rattle.std.proofs.lemmas.Bool.{or_cases}
 use Rattle.cm_names.specs.declared.child.ChildName.{ChildName}
 use Rattle.cm_decl.specs.declared.decl.Decl.{Decl}
 use Rattle.cm_decl.specs.declared.origin.Origin.{Origin}
 use Rattle.cm_decl.specs.declared.rows.Give.{Give}
 use Rattle.cm_decl.specs.declared.rows.Offer.{Offer}
 use Rattle.cm_decl.specs.Graph.{is_strong, is_from_child, target_of, own_sources, child_sources, offers_to}
-use Rattle.cm_decl.proofs.Sameness.{or_split, never}
+use Rattle.cm_decl.proofs.Sameness.{never}
 use Rattle.cm_world.specs.declared.row.Row.{Row}
 use Rattle.cm_world.specs.Rows.{row_of, decl_of}
 use Rattle.cm_world.specs.RowsInside.{child_behind, is_behind}
@@ -45,7 +46,7 @@ module _ {A : Type 0} (p : ℕ) (comes_from : ℕ → A → Bool) (xs : List A) 
 
   pub putting_more : (i : ℕ) (item : A) (first old new : BTreeMap ℕ (List ℕ)) → i < length xs → item ≡ get_or xs i item → IsPutting p comes_from (take i xs) w first old → ClientsGrow old new → ((x : ℕ) → x ≢ p → IsTrue (comes_from x item) → IsTrue (is_client new x w)) → IsPutting p comes_from (take (i + 1) xs) w first new
   putting_more i item first old new low at so_far kept here = record {
-    all = λ x other any. elim (or_split (list_any (comes_from x) (take i xs)) (comes_from x (get_or xs i item)) (sym (list_any_more (comes_from x) xs i item low) ∙ any)) [
+    all = λ x other any. elim (or_cases (list_any (comes_from x) (take i xs)) (comes_from x (get_or xs i item)) (sym (list_any_more (comes_from x) xs i item low) ∙ any)) [
       | inl before ↦ kept x w (so_far.all x other before)
       | inr last ↦ here x other (subst (λ z. IsTrue (comes_from x z)) (sym at) last)
     ];
@@ -62,7 +63,7 @@ module _ (rows : List Row) (p : ℕ) (offers : List Offer) where
   offering_first old name x other any = never any
 
   pub offering_more : (i : ℕ) (item : Offer) (old new : BTreeMap (List ℕ) (List ℕ)) → i < length offers → item ≡ get_or offers i item → HasOffered rows p (take i offers) old → OfferedGrow old new → ((name : List ℕ) (x : ℕ) → x ≢ p → IsTrue (is_offered_from rows p name x item) → IsTrue (is_offered new name x)) → HasOffered rows p (take (i + 1) offers) new
-  offering_more i item old new low at so_far kept here name x other any = elim (or_split (list_any (is_offered_from rows p name x) (take i offers)) (is_offered_from rows p name x (get_or offers i item)) (sym (list_any_more (is_offered_from rows p name x) offers i item low) ∙ any)) [
+  offering_more i item old new low at so_far kept here name x other any = elim (or_cases (list_any (is_offered_from rows p name x) (take i offers)) (is_offered_from rows p name x (get_or offers i item)) (sym (list_any_more (is_offered_from rows p name x) offers i item low) ∙ any)) [
     | inl before ↦ kept name x (so_far name x other before)
     | inr last ↦ here name x other (subst (λ z. IsTrue (is_offered_from rows p name x z)) (sym at) last)
   ]
@@ -100,7 +101,7 @@ pub any_from : {A B : Type 0} (q : B → Bool) (f : A → B) (t s : A → Bool) 
 any_from q f t s more [] h = never h
 any_from q f t s more (x ∷ xs) h = by (t x) refl (λ later. any_from q f t s more xs later) where
   by : (b : Bool) → t x ≡ b → (IsTrue (list_any q (map f (filter t xs))) → IsTrue (list_any s xs)) → IsTrue (list_any s (x ∷ xs))
-  by true e rest = elim (or_split (q (f x)) (list_any q (map f (filter t xs))) (rw e at h)) [
+  by true e rest = elim (or_cases (q (f x)) (list_any q (map f (filter t xs))) (rw e at h)) [
     | inl here ↦ or_left (s x) (list_any s xs) (more x e here)
     | inr later ↦ or_right (s x) (list_any s xs) (rest later)
   ]
@@ -140,7 +141,7 @@ module _ (rows : List Row) (next : ℕ) (sound : IsSound rows next) (p : ℕ) wh
   child_all d c gives x any =
       let both : IsTrue (list_any (is_given_from rows p x) (offers_to d c ++ gives)) =
       any_from (is_from_row rows p x) (λ g. g.from) (λ g. is_strong g.dependency) (is_given_from rows p x) (λ g strong from. and_pair (is_strong g.dependency) (is_from_row rows p x g.from) strong from) (offers_to d c ++ gives) any in
-      elim (or_split (list_any (is_given_from rows p x) (offers_to d c)) (list_any (is_given_from rows p x) gives) (sym (list_any-append (is_given_from rows p x) (offers_to d c) gives) ∙ both)) [
+      elim (or_cases (list_any (is_given_from rows p x) (offers_to d c)) (list_any (is_given_from rows p x) gives) (sym (list_any-append (is_given_from rows p x) (offers_to d c) gives) ∙ both)) [
         | inl offered ↦ inl (any_from (is_given_from rows p x) (λ o. o.give) (λ o. bytes_eq o.to (target_of c)) (is_offered_from rows p (target_of c) x) (λ o to here. and_pair (bytes_eq o.to (target_of c)) (is_given_from rows p x o.give) to here) d.offers offered)
         | inr given ↦ inr given
       ]

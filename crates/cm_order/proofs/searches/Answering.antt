@@ -1,7 +1,7 @@
 -- What a pick answers.
 use Rattle.std.proofs.Common.{◌≡◌, ℕ, List, false, not, Option, Some, None, IsTrue, is_none, is_some, option_map, option_and_then, refl, sym, ◌∙◌, ap, subst, inl, inr}
-use Rattle.std.proofs.lemmas.Bool.{not-true}
-use Rattle.cm_decl.proofs.Sameness.{or_split}
+use Rattle.std.proofs.lemmas.Bool.{not-true, or_cases}
+use Rattle.cm_facts.proofs.Booleans.{true_and_false}
 use Rattle.cm_world.specs.declared.row.Row.{Row}
 use Rattle.cm_world.specs.declared.action.ActKind.{ActKind}
 use Rattle.cm_world.specs.Rows.{row_of, is_live, is_below, is_closing, is_subtree_shut}
@@ -12,7 +12,7 @@ use Rattle.cm_world.proofs.trees.Finding.{none_some, some_same}
 use Rattle.cm_order.specs.declared.search.SearchGoal.TheVariants.{Idle, Pending}
 use Rattle.cm_order.specs.Search.{IsFound, NoneIs}
 use Rattle.cm_order.specs.Picking.{PickWaitsFor}
-use Rattle.cm_order.proofs.trees.Trees.{climb, below_lives, below_cases, below_trans, shut_each, shut_all, true_not_false}
+use Rattle.cm_order.proofs.trees.Trees.{climb, below_lives, below_cases, below_trans, shut_each, shut_all}
 use Rattle.cm_order.proofs.trees.Tops.{IsTop, top_of, top_below, top_lives, no_top}
 use Rattle.cm_order.proofs.trees.Ending.{CanUnder, shut_or_can}
 
@@ -31,13 +31,13 @@ module _ (rows : List Row) (next : ℕ) (sound : IsSound rows next) where
       ]
 
   gone_shut : (t : ℕ) → is_live rows t ≡ false → IsTrue (is_subtree_shut rows t)
-  gone_shut t gone = shut_all rows next sound.orderly t (λ i r lives below. true_not_false (is_live rows t) (top_there t i below) gone)
+  gone_shut t gone = shut_all rows next sound.orderly t (λ i r lives below. true_and_false (is_live rows t) (top_there t i below) gone)
 
   -- a target that lives and has no closing row above it is none
   pub none_left : (t : ℕ) → IsTrue (may_close rows t) → outermost rows t ≡ None → IsTrue (is_subtree_shut rows t)
-  none_left t may none = elim (or_split (not (is_live rows t)) (is_closing rows t) may) [
+  none_left t may none = elim (or_cases (not (is_live rows t)) (is_closing rows t) may) [
     | inl gone ↦ gone_shut t (not-true (is_live rows t) gone)
-    | inr closing ↦ true_not_false (is_closing rows t) closing (no_top rows next sound.orderly t none)
+    | inr closing ↦ true_and_false (is_closing rows t) closing (no_top rows next sound.orderly t none)
   ]
 
   -- the outermost closing row is its own
@@ -107,5 +107,5 @@ module _ (rows : List Row) (next : ℕ) (sound : IsSound rows next) where
       let row : (r : Row) × (row_of rows top ≡ Some r) = top_lives rows next sound.orderly top top is.own in
       elim (shut_or_can rows next sound top row.0 row.1) [
         | inl can ↦ either_wanted top is.own can can.row.pending refl none other
-        | inr shut ↦ true_not_false (is_subtree_shut rows t) (whole_shut t top is shut) undone
+        | inr shut ↦ true_and_false (is_subtree_shut rows t) (whole_shut t top is shut) undone
       ]

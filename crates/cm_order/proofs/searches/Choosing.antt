@@ -4,9 +4,9 @@ use Rattle.std.specs.Prelude.{◌↔◌}
 use Rattle.std.specs.Option.{option_map_or}
 use Rattle.std.specs.Cmp.{first_so, second_so}
 use Rattle.std.proofs.lemmas.Bool.{not-true}
+use Rattle.cm_facts.proofs.Options.{is_none_true}
 use Rattle.cm_decl.proofs.Sameness.{never}
 use Rattle.cm_world.specs.declared.row.Row.{Row}
-use Rattle.cm_world.specs.declared.action.ActKind.{ActKind}
 use Rattle.cm_world.specs.declared.view.Facts.{Facts}
 use Rattle.cm_world.specs.Rows.{row_of, is_live, is_below, is_closing, has_closing, is_subtree_shut}
 use Rattle.cm_world.specs.RowsInside.{facts_of}
@@ -24,10 +24,6 @@ use Rattle.cm_order.proofs.trees.Paths.{path, path_top}
 use Rattle.cm_order.proofs.searches.Searching.{row_unshut, kid_leads}
 use Rattle.cm_order.specs.declared.search.SearchGoal.TheVariants.{Idle}
 
--- where something is out of the question, false says so
-pub never_so : {P : Type 0} → (P → ⊥) → IsTrue false ↔ P
-never_so out = (λ no_way. never no_way, λ it. absurd (out it))
-
 -- ---- a row that is idle
 
 pub record IsIdleRow (rows : List Row) (i : ℕ) : Type 0 where
@@ -36,17 +32,13 @@ pub record IsIdleRow (rows : List Row) (i : ℕ) : Type 0 where
   pub unshut : row.shut ≡ false
   pub pending : row.pending ≡ None
 
-none_by : (o : Option (ActKind × ℕ)) → IsTrue (is_none o) → o ≡ None
-none_by None h = refl
-none_by (Some p) h = never h
-
 idle_by : (rows : List Row) (i : ℕ) (o : Option Row) → row_of rows i ≡ o → IsTrue (option_map_or (λ r. not r.shut && is_none r.pending) o false) → IsIdleRow rows i
 idle_by rows i None e h = never h
 idle_by rows i (Some r) e h = record {
   row = r;
   lives = e;
   unshut = not-true r.shut (first_so (not r.shut) (is_none r.pending) h);
-  pending = none_by r.pending (second_so (not r.shut) (is_none r.pending) h);
+  pending = is_none_true r.pending (second_so (not r.shut) (is_none r.pending) h);
 }
 
 pub idle_row : (rows : List Row) (i : ℕ) → IsTrue (is_idle rows i) → IsIdleRow rows i

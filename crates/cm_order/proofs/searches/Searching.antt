@@ -1,6 +1,7 @@
 -- The search for a row that may stop, place by place.
 use Rattle.std.proofs.Common.{◌≡◌, ℕ, List, [], ◌∷◌, ◌++◌, false, Option, Some, None, IsTrue, refl, sym, ◌∙◌, ap, subst, inl, inr}
 use Rattle.std.specs.Option.{option_map_or}
+use Rattle.cm_facts.proofs.Booleans.{true_and_false}
 use Rattle.cm_world.specs.declared.row.Row.{Row}
 use Rattle.cm_world.specs.Rows.{row_of, is_below, is_subtree_shut}
 use Rattle.cm_world.specs.RowsInside.{is_behind}
@@ -13,7 +14,7 @@ use Rattle.cm_order.specs.Spots.{further}
 use Rattle.cm_order.specs.Kids.{IsKid}
 use Rattle.cm_order.specs.Levels.{EachOfList}
 use Rattle.cm_order.specs.Search.{IsFreeAt, LeadsNext, IsNextLeading, is_wanted, IsHere, SearchGoesOn, IsFound, NoneIs}
-use Rattle.cm_order.proofs.trees.Trees.{below_self, below_kid, below_trans, kid_below, shut_each, not_true, true_not_false}
+use Rattle.cm_order.proofs.trees.Trees.{below_self, below_kid, below_trans, kid_below, shut_each, not_true}
 use Rattle.cm_order.proofs.trees.Tops.{top_below}
 use Rattle.cm_order.proofs.searches.Turns.{past, under, turn_back, turn_on, last_of}
 use Rattle.cm_order.proofs.levels.Gathering.{own_shut, kid_shut}
@@ -56,7 +57,7 @@ module _ (rows : List Row) (next : ℕ) (orderly : IsOrderly rows next) (wanted 
   pub kid_leads : (p c y : ℕ) (r : Row) → IsKid rows p c → IsTrue (is_below rows c y) → row_of rows y ≡ Some r → r.shut ≡ false → IsFree rows p c → IsFreeAt rows p c
   kid_leads p c y r kid below lives unshut free = record {
     free = free;
-    unshut = kid_shut rows next orderly p c kid ∙ not_true (is_subtree_shut rows c) (λ all. true_not_false r.shut (shut_each rows next orderly c y r all lives below) unshut);
+    unshut = kid_shut rows next orderly p c kid ∙ not_true (is_subtree_shut rows c) (λ all. true_and_false r.shut (shut_each rows next orderly c y r all lives below) unshut);
   }
 
   -- a row and its children decide for all below it

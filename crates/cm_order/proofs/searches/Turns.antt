@@ -1,7 +1,8 @@
 -- A search down the tree, place by place.
-use Rattle.std.proofs.Common.{◌≡◌, ℕ, List, [], ◌∷◌, ◌++◌, Bool, true, false, not, Option, Some, None, IsTrue, option_and_then, refl, sym, ◌∙◌, ap, subst, inl, inr}
+use Rattle.std.proofs.Common.{◌≡◌, ℕ, List, [], ◌∷◌, ◌++◌, Bool, false, not, Option, Some, None, IsTrue, option_and_then, refl, sym, ◌∙◌, ap, subst, inl, inr}
 use Rattle.std.specs.Option.{option_map_or}
 use Rattle.std.proofs.lemmas.Bool.{not-false}
+use Rattle.cm_facts.proofs.Booleans.{not_both}
 use Rattle.cm_decl.proofs.Sameness.{never}
 use Rattle.cm_world.specs.declared.row.Row.{Row}
 use Rattle.cm_world.specs.Rows.{row_of, is_below, is_subtree_shut}
@@ -108,13 +109,9 @@ module _ (rows : List Row) (next : ℕ) (orderly : IsOrderly rows next) where
         (subst (EachOfList (KidsShut rows)) more all)));
   }
 
-  open_by : (b : Bool) → IsTrue (not b) → IsTrue b → ⊥
-  open_by true e h = never e
-  open_by false e h = never h
-
   open_row : (top i : ℕ) (o : Option Row) → row_of rows i ≡ o → IsTrue (is_below rows top i) → IsTrue (option_map_or (λ r. not r.shut) o false) → is_subtree_shut rows top ≡ false
   open_row top i None e below yet = never yet
-  open_row top i (Some r) e below yet = not_true (is_subtree_shut rows top) (λ all. open_by r.shut yet (shut_each rows next orderly top i r all e below))
+  open_row top i (Some r) e below yet = not_true (is_subtree_shut rows top) (λ all. not_both r.shut (shut_each rows next orderly top i r all e below) yet)
 
   -- not all is shut where a row below isn't
   pub not_shut : (top i : ℕ) → IsTrue (is_below rows top i) → IsTrue (option_map_or (λ r. not r.shut) (row_of rows i) false) → is_subtree_shut rows top ≡ false

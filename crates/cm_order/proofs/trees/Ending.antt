@@ -3,6 +3,7 @@ use Rattle.std.proofs.Common.{◌≡◌, ◌≢◌, ℕ, zero, suc, ◌+◌, ◌
 use Rattle.std.specs.List.{list_any}
 use Rattle.std.specs.Option.{option_map_or}
 use Rattle.std.specs.Cmp.{unsigned_Decides, second_so}
+use Rattle.cm_facts.proofs.Booleans.{true_and_false}
 use Rattle.cm_decl.specs.Reach.{DependencyPath, Reaches, NoCycle}
 use Rattle.cm_decl.specs.RealmGraph.{IsImplied, Depends}
 use Rattle.cm_decl.proofs.Sameness.{never}
@@ -19,7 +20,7 @@ use Rattle.cm_world.proofs.trees.Walks.{below_next}
 use Rattle.cm_order.specs.Kids.{IsKid}
 use Rattle.cm_order.specs.Laws.{CanStop}
 use Rattle.cm_order.specs.LawsInside.{HasNoDeadEnd}
-use Rattle.cm_order.proofs.trees.Trees.{below_self, below_kid, below_trans, kid_below, kid_higher, kid_within, parent_lives, shut_each, shut_all, and_pair, or_left, eq_some, true_not_false}
+use Rattle.cm_order.proofs.trees.Trees.{below_self, below_kid, below_trans, kid_below, kid_higher, kid_within, parent_lives, shut_each, shut_all, and_pair, or_left, eq_some}
 use Rattle.cm_order.proofs.trees.Tops.{IsTop, top_of, top_below, top_lives, no_top}
 use Rattle.cm_order.proofs.levels.Gathering.{own_shut, kid_shut}
 use Rattle.cm_order.proofs.trees.Paths.{path, path_top}
@@ -190,7 +191,7 @@ module _ (rows : List Row) (next : ℕ) (sound : IsSound rows next) where
 
   kid_or_not : (c k : ℕ) (a b : Bool) → option_map_or (has_parent c) (row_of rows k) false ≡ a → is_subtree_shut rows k ≡ b → IsUnshutKid rows c k ⊎ (IsUnshutKid rows c k → ⊥)
   kid_or_not c k false b parent shut =
-      inr (λ is. true_not_false (has_parent c is.kid.row) (eq_some is.kid.row.parent c is.kid.parent) (sym (ap (λ o. option_map_or (has_parent c) o false) is.kid.lives) ∙ parent))
+      inr (λ is. true_and_false (has_parent c is.kid.row) (eq_some is.kid.row.parent c is.kid.parent) (sym (ap (λ o. option_map_or (has_parent c) o false) is.kid.lives) ∙ parent))
   kid_or_not c k true true parent shut = inr (λ is. true≢false (sym shut ∙ is.unshut))
   kid_or_not c k true false parent shut = inl (record { kid = kid_by rows c k (row_of rows k) refl parent; unshut = shut })
 
@@ -252,7 +253,7 @@ law_by rows next i r sound lives closing unshut (Some top) all =
         unshut = can.unshut;
         may_stop = record { top = top; outermost = top_below rows next sound.orderly top can.inc is.own can.below; free = can.free };
       })
-      | inr shut ↦ true_not_false r.shut (shut_each rows next sound.orderly top i r shut lives is.below) unshut
+      | inr shut ↦ true_and_false r.shut (shut_each rows next sound.orderly top i r shut lives is.below) unshut
     ]
 
 pub no_dead_end : HasNoDeadEnd

@@ -4,6 +4,7 @@ use Rattle.std.specs.Option.{option_map_or, option_or}
 use Rattle.std.proofs.lemmas.List.{reverse-append}
 use Rattle.std.proofs.lemmas.List.Folds.{find-append}
 use Rattle.std.proofs.lemmas.Bool.{or_from, or_parts}
+use Rattle.cm_facts.proofs.Options.{cond_none}
 use Rattle.cm_world.specs.declared.row.Row.{Row}
 use Rattle.cm_world.specs.Rows.{row_of, at_or_above, is_below, is_closing, has_closing, line_from}
 use Rattle.cm_world.specs.Sound.{IsOrderly}
@@ -136,10 +137,6 @@ module _ (rows : List Row) (next : ℕ) (orderly : IsOrderly rows next) where
   or_nothing None b e = (refl, e)
   or_nothing (Some x) b e = absurd (none_some x (sym e))
 
-  unclosing : (b : Bool) (i : ℕ) → cond b (Some i) None ≡ None → b ≡ false
-  unclosing true i e = absurd (none_some i (sym e))
-  unclosing false i e = refl
-
   above_false : (r : Row) (o : Option ℕ) → r.parent ≡ o → ((p : ℕ) → r.parent ≡ Some p → outermost rows p ≡ None → is_closing rows p ≡ false) → outermost_from rows o ≡ None → at_or_above (length rows) (λ r. r.closing) rows o ≡ false
   above_false r None parent up e = above_root (length rows) (λ r. r.closing) rows
   above_false r (Some p) parent up e = up p parent e
@@ -157,7 +154,7 @@ module _ (rows : List Row) (next : ℕ) (orderly : IsOrderly rows next) where
       step i r lives up none =
           let parts : (outermost_from rows r.parent ≡ None) × (cond (has_closing rows i) (Some i) None ≡ None) = or_nothing (outermost_from rows r.parent) (cond (has_closing rows i) (Some i) None) (sym (top_step i r lives) ∙ none) in
           some_above-step (λ r. r.closing) rows next i r orderly lives
-          ∙ or_from r.closing (at_or_above (length rows) (λ r. r.closing) rows r.parent) (sym (ap (λ o. option_map_or (λ r. r.closing) o false) lives) ∙ unclosing (has_closing rows i) i parts.1) (above_false r r.parent refl up parts.0)
+          ∙ or_from r.closing (at_or_above (length rows) (λ r. r.closing) rows r.parent) (sym (ap (λ o. option_map_or (λ r. r.closing) o false) lives) ∙ cond_none (has_closing rows i) i parts.1) (above_false r r.parent refl up parts.0)
 
   -- where there is none, the row isn't closing
   pub no_top : (i : ℕ) → outermost rows i ≡ None → is_closing rows i ≡ false

@@ -3,6 +3,7 @@ use Rattle.std.proofs.Common.{◌≡◌, ℕ, zero, suc, ◌+◌, ◌<◌, ◌�
 use Rattle.std.specs.List.{list_all}
 use Rattle.std.specs.Option.{option_eq}
 use Rattle.std.specs.Cmp.{unsigned_Decides}
+use Rattle.cm_facts.proofs.Booleans.{not_or}
 pub use Rattle.std.proofs.lemmas.Bool.{or_left, or_right, and_from as and_pair, false_from_ne_true as not_true, not_from_false as not_flip}
 use Rattle.cm_decl.proofs.Sameness.{never}
 use Rattle.cm_world.specs.declared.row.Row.{Row}
@@ -15,13 +16,6 @@ use Rattle.cm_world.proofs.trees.Walks.{find-lives, below_next}
 use Rattle.cm_walk.proofs.ways.Standing as standing
 
 -- ---- tests
-
-pub true_not_false : {A : Type 0} (p : Bool) → IsTrue p → p ≡ false → A
-true_not_false p h g = absurd (true≢false (sym h ∙ g))
-
-pub some_eq : (o : Option ℕ) (p : ℕ) → IsTrue (option_eq nat_eq o (Some p)) → o ≡ Some p
-some_eq None p h = never h
-some_eq (Some q) p h = ap Some ((unsigned_Decides q p).0 h)
 
 pub eq_some : (o : Option ℕ) (p : ℕ) → o ≡ Some p → IsTrue (option_eq nat_eq o (Some p))
 eq_some o p e = subst (λ z. IsTrue (option_eq nat_eq z (Some p))) (sym e) ((unsigned_Decides p p).1 refl)
@@ -150,10 +144,6 @@ module _ (rows : List Row) (next : ℕ) (orderly : IsOrderly rows next) where
   second true q h g = h
   second false q h g = never g
 
-  unless : (p q : Bool) → (IsTrue p → IsTrue q) → IsTrue (not p || q)
-  unless true q h = h refl
-  unless false q h = refl
-
   -- where all below a row is shut, each row there is
   pub shut_each : (top i : ℕ) (r : Row) → IsTrue (is_subtree_shut rows top) → row_of rows i ≡ Some r → IsTrue (is_below rows top i) → IsTrue r.shut
   shut_each top i r all lives below =
@@ -163,4 +153,4 @@ module _ (rows : List Row) (next : ℕ) (orderly : IsOrderly rows next) where
   pub shut_all : (top : ℕ) → ((i : ℕ) (r : Row) → row_of rows i ≡ Some r → IsTrue (is_below rows top i) → IsTrue r.shut) → IsTrue (is_subtree_shut rows top)
   shut_all top each =
       shut_test top ∙ all_rows rows next (λ r. not (is_below rows top r.inc) || r.shut) orderly.increasing
-      (λ i r lives. unless (is_below rows top r.inc) r.shut (λ below. each i r lives (subst (λ z. IsTrue (is_below rows top z)) (row_of-inc rows i r lives) below)))
+      (λ i r lives. not_or (is_below rows top r.inc) r.shut (λ below. each i r lives (subst (λ z. IsTrue (is_below rows top z)) (row_of-inc rows i r lives) below)))

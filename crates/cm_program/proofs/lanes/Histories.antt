@@ -3,6 +3,7 @@ use Rattle.std.proofs.Common.{◌≡◌, ℕ, ◌<◌, List, [], ◌∷◌, ◌+
 use Rattle.std.specs.List.{slice_get}
 use Rattle.std.proofs.lemmas.List.Elements.{All-weaker}
 use Rattle.std.proofs.lemmas.Option.{slice_get_within, slice_get-get_or}
+use Rattle.cm_facts.proofs.Lists.{All_slice_get}
 use Rattle.cm_turn.specs.History.{StartsWith}
 use Rattle.cm_turn.specs.Passes.{LockView, BearsPassOut, HasCaller, new_passes}
 use Rattle.cm_world.specs.declared.frame.Frame.{Frame}
@@ -26,7 +27,7 @@ use Rattle.cm_manager.specs.Kept.{AreSixteen, frame_at, ExtendsPass, KeepsPass, 
 use Rattle.cm_lanes.specs.Lanes.{RanLanes}
 use Rattle.cm_lanes.proofs.ends.Ending.{phases_same}
 use Rattle.cm_program.specs.Headline.{MakesHistory, WorksEach}
-use Rattle.cm_program.proofs.lanes.Sixteen.{all_at, no_entries, all_prefix, all_behind, pass_of, caller_low, sixteen_new, IsNew, all_new}
+use Rattle.cm_program.proofs.lanes.Sixteen.{no_entries, all_prefix, all_behind, pass_of, caller_low, sixteen_new, IsNew, all_new}
 
 -- ---- phases
 
@@ -41,7 +42,7 @@ frames_new turn f passes is c low =
     let p = pass_of turn passes c (sixteen_new turn f passes is) low in
     let new : All (IsNew f) passes = subst (All (IsNew f)) (sym is) (all_new turn f 16) in
     ap (λ (o : Option RealmPass). elim o as (λ _. Frame) [ None ↦ no_frame | Some q ↦ frame_of q ]) p.1
-    ∙ ap frame_in (all_at (IsNew f) passes c p.0 new p.1).frame
+    ∙ ap frame_in (All_slice_get (IsNew f) passes c p.0 new p.1).frame
 
 module _ {G : Type 0} where
   pub some_of : (xs : List G) (k : ℕ) → k < length xs → (x : G) × (slice_get xs k ≡ Some x)
@@ -64,20 +65,20 @@ module _ {G : Type 0} (log_of : G → Option (List GateCall)) (faults_of : G →
   -- what a caller's pass knows of the history
   mine_of : (c : ℕ) (q : RealmPass) → slice_get back.passes c ≡ Some q → q.caller ≡ c → own_entries c history ≡ q.mine
   mine_of c q at is =
-      let known = all_at (BearsPassOut (λ (s : Story). s.entries) (λ s. s.frame) (λ (e : Entry). e.caller) closes.story) back.passes c q closes.known at in
+      let known = All_slice_get (BearsPassOut (λ (s : Story). s.entries) (λ s. s.frame) (λ (e : Entry). e.caller) closes.story) back.passes c q closes.known at in
       ap (own_entries c) closes.entries ∙ ap (λ (d : ℕ). own_entries d closes.story.entries) (sym is) ∙ known.2
 
   fresh : (c : ℕ) (p : RealmPass) → slice_get passes c ≡ Some p → IsNew f p
-  fresh c p at = all_at (IsNew f) passes c p (subst (All (IsNew f)) (sym new) (all_new turn f 16)) at
+  fresh c p at = All_slice_get (IsNew f) passes c p (subst (All (IsNew f)) (sym new) (all_new turn f 16)) at
 
   -- the history is that of the frame
   legal_by : (q : RealmPass) → slice_get back.passes 0 ≡ Some q → q.frame ≡ Some f → Legal (start f) history
   legal_by q at frame =
-      let known = all_at (BearsPassOut (λ (s : Story). s.entries) (λ s. s.frame) (λ (e : Entry). e.caller) closes.story) back.passes 0 q closes.known at in
+      let known = All_slice_get (BearsPassOut (λ (s : Story). s.entries) (λ s. s.frame) (λ (e : Entry). e.caller) closes.story) back.passes 0 q closes.known at in
       subst (λ (g : Frame). Legal (start g) history) (some_same closes.story.frame f (sym known.0 ∙ frame)) closes.legal
 
   framed_by : (own : Frame) → All (λ (p : RealmPass). p.frame ≡ Some own) back.passes → (q : RealmPass) → slice_get back.passes 0 ≡ Some q → q.frame ≡ Some f → own ≡ f
-  framed_by own framed q at frame = some_same own f (sym (all_at (λ (p : RealmPass). p.frame ≡ Some own) back.passes 0 q framed at) ∙ frame)
+  framed_by own framed q at frame = some_same own f (sym (All_slice_get (λ (p : RealmPass). p.frame ≡ Some own) back.passes 0 q framed at) ∙ frame)
 
   module _ (ran : RanLanes log_of faults_of manifests phases passes gates back) where
     -- the pass of a caller, before and behind, with what is kept of it
@@ -95,13 +96,13 @@ module _ {G : Type 0} (log_of : G → Option (List GateCall)) (faults_of : G →
     own_last c lt =
         let q = new_of c lt in
         mine_of c q.0 q.1 q.2 ∙ (kept_of c lt).2.own ∙ ap (λ (d : ℕ). own_entries d q.0.seen) q.2
-        ∙ ap (own_entries c) (all_at (λ (q : RealmPass). q.seen ≡ ran.last) back.passes c q.0 ran.met q.1)
+        ∙ ap (own_entries c) (All_slice_get (λ (q : RealmPass). q.seen ≡ ran.last) back.passes c q.0 ran.met q.1)
 
     grows_last : StartsWith history ran.last
     grows_last =
         let q = new_of 0 (omega arith) in
-        let known = all_at (BearsPassOut (λ (s : Story). s.entries) (λ s. s.frame) (λ (e : Entry). e.caller) closes.story) back.passes 0 q.0 closes.known q.1 in
-        subst (λ (l : List Entry). StartsWith history l) (all_at (λ (q : RealmPass). q.seen ≡ ran.last) back.passes 0 q.0 ran.met q.1)
+        let known = All_slice_get (BearsPassOut (λ (s : Story). s.entries) (λ s. s.frame) (λ (e : Entry). e.caller) closes.story) back.passes 0 q.0 closes.known q.1 in
+        subst (λ (l : List Entry). StartsWith history l) (All_slice_get (λ (q : RealmPass). q.seen ≡ ran.last) back.passes 0 q.0 ran.met q.1)
         (subst (λ (l : List Entry). StartsWith l q.0.seen) (sym closes.entries) known.1)
 
     -- so nothing came behind it
@@ -119,7 +120,7 @@ module _ {G : Type 0} (log_of : G → Option (List GateCall)) (faults_of : G →
         let all : history ≡ ran.first ++ grown.0 = is_last ∙ grown.1 in
         no_entries 16 ran.first (all_prefix (λ (e : Entry). e.caller < 16) ran.first grown.0 (subst (All (λ (e : Entry). e.caller < 16)) all low))
         (λ c lt. let p = old_of c lt in
-        ap (λ (d : ℕ). own_entries d ran.first) (sym p.2) ∙ (all_at (ExtendsPass ran.first) passes c p.0 ran.begins p.1).own ∙ (fresh c p.0 p.1).mine)
+        ap (λ (d : ℕ). own_entries d ran.first) (sym p.2) ∙ (All_slice_get (ExtendsPass ran.first) passes c p.0 ran.begins p.1).own ∙ (fresh c p.0 p.1).mine)
 
     pub makes_by : MakesHistory f phases ran.answered history
     makes_by = record {

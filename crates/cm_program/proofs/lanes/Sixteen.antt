@@ -5,18 +5,16 @@ use Rattle.std.proofs.lemmas.List.{length-map, get_or-map}
 use Rattle.std.proofs.lemmas.List.Elements.{All-nil, All-cons, All-append, All-head, All-tail}
 use Rattle.std.proofs.lemmas.List.FromFn.{length-range_with_len, get_or-range_with_len}
 use Rattle.std.proofs.lemmas.Option.{slice_get_within, slice_get-get_or, get_or_from_slice_get}
+use Rattle.cm_facts.proofs.Numbers.{eq_self}
 use Rattle.cm_turn.specs.Passes.{LockView, AreAll, HasCaller, new_pass, new_passes}
 use Rattle.cm_turn.proofs.AllPasses.{AreAll-new}
 use Rattle.cm_world.specs.declared.frame.Frame.{Frame}
 use Rattle.cm_world.specs.declared.reply.Entry.{Entry}
 use Rattle.cm_manager.specs.Turns.{own_entries}
 use Rattle.cm_manager.specs.Contract.{RealmPass}
-use Rattle.cm_manager.proofs.left.HavingEnds.{own_caller}
 use Rattle.cm_manager.specs.Kept.{AreSixteen}
 
 module _ {X : Type 0} where
-  pub all_at : (P : X → Type 0) (xs : List X) (k : ℕ) (x : X) → All P xs → slice_get xs k ≡ Some x → P x
-  all_at P xs k x all at = subst P (get_or_from_slice_get xs k x x at) (all k x (slice_get_within xs k x at))
 
   pub all_prefix : (P : X → Type 0) (xs ys : List X) → All P (xs ++ ys) → All P xs
   all_prefix P [] ys all = All-nil P
@@ -35,7 +33,7 @@ kept_first p e es is = rw is refl
 pub no_entries : (n : ℕ) (es : List Entry) → All (λ (e : Entry). e.caller < n) es → ((c : ℕ) → c < n → own_entries c es ≡ []) → es ≡ []
 no_entries n [] low none = refl
 no_entries n (e ∷ es) low none =
-    let first : own_entries e.caller (e ∷ es) ≡ e ∷ own_entries e.caller es = kept_first (λ (y : Entry). y.caller == e.caller) e es (own_caller e.caller) in
+    let first : own_entries e.caller (e ∷ es) ≡ e ∷ own_entries e.caller es = kept_first (λ (y : Entry). y.caller == e.caller) e es (eq_self e.caller) in
     let nothing : own_entries e.caller (e ∷ es) ≡ [] = none e.caller (All-head (λ (x : Entry). x.caller < n) e es low) in
     absurd (cc (first, nothing))
 

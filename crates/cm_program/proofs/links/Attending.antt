@@ -3,6 +3,7 @@ use Rattle.std.proofs.Common.{◌≡◌, ◌≢◌, inl, inr, ℕ, zero, suc, �
 use Rattle.std.specs.List.{slice_get}
 use Rattle.std.proofs.lemmas.List.Elements.{All-append, All-cons, All-nil, All-weaker}
 use Rattle.std.proofs.lemmas.Option.{slice_get_within}
+use Rattle.cm_facts.proofs.Lists.{slice_get_some, All_slice_get}
 use Rattle.cm_turn.specs.History.{StartsWith}
 use Rattle.cm_turn.specs.Passes.{LockView, HasCaller, BearsPassOut, new_pass, new_passes}
 use Rattle.cm_world.specs.declared.frame.Frame.{Frame}
@@ -29,10 +30,9 @@ use Rattle.cm_session.specs.Links.{LinkView}
 use Rattle.cm_session.specs.Serving.{IsOfLink, IsUnserved, ServesAll, ServedOrNot, ServedLink, back_view, worker_by_worker}
 use Rattle.cm_program.specs.Headline.{EndsWell, WorksEach}
 use Rattle.cm_program.specs.Sessions.{FollowsEach, RunsSessions, sats_by, status_of}
-use Rattle.cm_session.proofs.work.Places.{there_at}
 use Rattle.cm_program.proofs.whole.Nothing.{ends_well, nothing_ends, nothing_legal, works_nothing}
 use Rattle.cm_program.proofs.links.SessionWorkers.{Joined, Visited, in_order, joined, low_workers, visited}
-use Rattle.cm_program.proofs.lanes.Sixteen.{IsNew, all_at, all_new, caller_low, pass_of, sixteen_new}
+use Rattle.cm_program.proofs.lanes.Sixteen.{IsNew, all_new, caller_low, pass_of, sixteen_new}
 
 -- ---- new passes
 
@@ -109,8 +109,8 @@ module _ {D G L : Type 0} (log_of : G → Option (List GateCall)) (faults_of : G
   both c lt =
       let old = pass_of turn passes c (sixteen_new turn f passes new) lt in
       let now = pass_of turn back.passes c are lt in
-      let g = there_at gates c (subst (λ (n : ℕ). c < n) (sym count) lt) in
-      let h = there_at back.gates c (subst (λ (n : ℕ). c < n) (sym (kept.gates ∙ count)) lt) in
+      let g = slice_get_some gates c (subst (λ (n : ℕ). c < n) (sym count) lt) in
+      let h = slice_get_some back.gates c (subst (λ (n : ℕ). c < n) (sym (kept.gates ∙ count)) lt) in
       record {
         p = old.0;
         q = now.0;
@@ -122,9 +122,9 @@ module _ {D G L : Type 0} (log_of : G → Option (List GateCall)) (faults_of : G
         h_at = h.1;
         p_caller = old.2;
         q_caller = now.2;
-        fresh_pass = all_at (IsNew f) passes c old.0 (fresh turn f passes new) old.1;
-        no_seen = all_at (λ (p : RealmPass). p.seen ≡ []) passes c old.0 (unseen turn f passes new) old.1;
-        known = all_at known_by back.passes c now.0 closes.known now.1;
+        fresh_pass = All_slice_get (IsNew f) passes c old.0 (fresh turn f passes new) old.1;
+        no_seen = All_slice_get (λ (p : RealmPass). p.seen ≡ []) passes c old.0 (unseen turn f passes new) old.1;
+        known = All_slice_get known_by back.passes c now.0 closes.known now.1;
         keeps = kept.each c old.0 now.0 g.0 h.0 old.1 now.1 g.1 h.1;
       }
 
@@ -167,10 +167,10 @@ module _ {D G L : Type 0} (log_of : G → Option (List GateCall)) (faults_of : G
 
     visited_by : (i : ℕ) (vs : List ServedLink) → slice_get all.visits i ≡ Some vs → Both i → Visited view status history f (0 + i) vs []
     visited_by i vs at b =
-        let came = all_at (All (λ (v : ServedLink). IsOfLink view v.was)) all.visits i vs all.came at in
+        let came = All_slice_get (All (λ (v : ServedLink). IsOfLink view v.was)) all.visits i vs all.came at in
         let serves = all.each i vs b.p b.q b.g b.h at b.p_at b.q_at b.g_at b.h_at in
         let is = visited view status history manifests vs b.p b.q (gates_view log_of faults_of b.g) (gates_view log_of faults_of b.h) serves came
-        (λ other. all_at (All (λ (v : ServedLink). v.ended ≢ ended.Memory)) all.visits i vs (all.well (not_memory back.cause other)) at)
+        (λ other. All_slice_get (All (λ (v : ServedLink). v.ended ≢ ended.Memory)) all.visits i vs (all.well (not_memory back.cause other)) at)
         (subst (λ (c : ℕ). IsLaterHistory c b.q.seen history) (sym b.p_caller) (later i b)) in
         let caller : b.p.caller ≡ 0 + i = b.p_caller ∙ sym (zero-add i) in
         subst (λ (l : List Entry). Visited view status history f (0 + i) vs l) b.no_seen
@@ -200,7 +200,7 @@ module _ {D G L : Type 0} (log_of : G → Option (List GateCall)) (faults_of : G
 
   module _ (door : D) (un : IsUnserved passes gates door back) where
     none_own : (c : ℕ) (b : Both c) → own_entries c history ≡ []
-    none_own c b = mine_of c b ∙ (all_at (IsNew f) passes c b.q (fresh turn f passes new) (ap (λ (l : List RealmPass). slice_get l c) (sym un.same_passes) ∙ b.q_at)).mine
+    none_own c b = mine_of c b ∙ (All_slice_get (IsNew f) passes c b.q (fresh turn f passes new) (ap (λ (l : List RealmPass). slice_get l c) (sym un.same_passes) ∙ b.q_at)).mine
 
     runs_unserved : RunsSessions log_of faults_of view f manifests workers gates back.gates history (map (back_view view) back.links) (status_of back.cause)
     runs_unserved =

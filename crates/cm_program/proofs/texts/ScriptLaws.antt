@@ -1,5 +1,6 @@
 -- Bytes that are served are not refused, and ask for one thing.
-use Rattle.std.proofs.Common.{◌≡◌, ℕ, List, Result, Ok, Err, sym, ap, ◌∙◌}
+use Rattle.std.proofs.Common.{◌≡◌, ℕ, List, sym, ap, ◌∙◌}
+use Rattle.cm_facts.proofs.Options.{Ok_not_Err}
 use Rattle.cm_command.proofs.scripts.OneScript.{texts_are_one_script_lem, scripts_have_no_fault_lem}
 use Rattle.cm_program.specs.Laws.{ServedAreNotRefused, BytesAskForOne}
 use Rattle.cm_program.specs.Run.{IsFaulty}
@@ -8,14 +9,11 @@ use Rattle.cm_program.specs.declared.fault.ScriptRefusal.{ScriptRefusal}
 use Rattle.cm_program.specs.declared.fault.ScriptRefusal.TheVariants.{Unread, Unserved, Memory}
 use Rattle.cm_program.specs.declared.stock.LoadedScript.{LoadedScript}
 
-ok_err : {A E : Type 0} {r : Result A E} {x : A} {e : E} → r ≡ Ok x → r ≡ Err e → ⊥
-ok_err h k = absurd (cc)
-
 refused_unserved : (bytes : List ℕ) (f : ScriptRefusal) (served : LoadedScript) → IsScriptRefusal bytes f → LoadsScript bytes served → ⊥
 refused_unserved bytes (Unread line number at) served f h = scripts_have_no_fault_lem bytes h.script line number at h.reads f
 refused_unserved bytes (Unserved line problem) served f h =
     let same = texts_are_one_script_lem bytes f.script h.script f.reads h.reads in
-    ok_err h.asks (sym (ap served_script same) ∙ f.refused)
+    Ok_not_Err h.asks (sym (ap served_script same) ∙ f.refused)
 refused_unserved bytes Memory served f h = absurd f
 
 pub served_are_not_refused_lem : ServedAreNotRefused

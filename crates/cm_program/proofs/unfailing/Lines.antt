@@ -1,8 +1,8 @@
 -- What a script's lines, and the commands of links, are answered where no outcome that was told had failed.
 use Rattle.std.proofs.Common.{◌≡◌, inl, inr, ℕ, ◌<◌, List, [], ◌∷◌, Bool, true, false, cond, nat_eq, ◌==◌, Result, All, map, refl, sym, ap, subst, arith, eq-eqb}
 use Rattle.std.specs.List.{AllZip}
-use Rattle.std.proofs.lemmas.Bool.Decides.{nat_tests}
 use Rattle.std.proofs.lemmas.List.Elements.{All-cons, All-nil, All-head, All-tail}
+use Rattle.cm_facts.proofs.Numbers.{eq_self}
 use Rattle.cm_turn.specs.History.{StartsWith}
 use Rattle.cm_world.specs.declared.answer.Answer.{Answer}
 use Rattle.cm_world.specs.declared.answer.Refusal.{Refusal}
@@ -110,9 +110,6 @@ phases_well f fit (one_first {answered = xs} {others = others} {h₁ = m} {h₂ 
 
 -- ---- all workers
 
-same_number : (a : ℕ) → nat_eq a a ≡ true
-same_number a = grind (arith, nat_tests)
-
 module _ (P : SessionRecord → Type 0) (R : Back LinkView → SessionRecord → Type 0) where
   skip : (b : Bool) (s : SessionRecord) (ss : List SessionRecord) → All P (cond b (s ∷ ss) ss) → All P ss
   skip true s ss h = All-tail P s ss h
@@ -125,6 +122,6 @@ module _ (P : SessionRecord → Type 0) (R : Back LinkView → SessionRecord →
   by_workers n (b ∷ bs) (s ∷ ss) zip few each =
       let small = All-head (λ (b : Back LinkView). b.worker < n) b bs few in
       All-cons P s ss
-      (All-head P s (sats_by b.worker bs ss) (subst (λ (t : Bool). All P (cond t (s ∷ sats_by b.worker bs ss) (sats_by b.worker bs ss))) (same_number b.worker) (each b.worker small)))
+      (All-head P s (sats_by b.worker bs ss) (subst (λ (t : Bool). All P (cond t (s ∷ sats_by b.worker bs ss) (sats_by b.worker bs ss))) (eq_self b.worker) (each b.worker small)))
       (by_workers n bs ss zip.1 (All-tail (λ (b : Back LinkView). b.worker < n) b bs few)
       (λ k lt. skip (nat_eq b.worker k) s (sats_by k bs ss) (each k lt)))

@@ -1,5 +1,6 @@
 -- What a run of a script promises, from what its parts did.
-use Rattle.std.proofs.Common.{◌≡◌, ◌≢◌, ◌⊎◌, inl, inr, ℕ, ◌<◌, ◌≤◌, List, [], ◌++◌, All, map, flat_map, length, Option, Some, None, IfSome, Result, Ok, Err, refl, sym, ap, subst, ◌∙◌}
+use Rattle.std.proofs.Common.{◌≡◌, ◌≢◌, ◌⊎◌, inl, inr, ℕ, ◌<◌, ◌≤◌, List, [], ◌++◌, All, map, flat_map, length, Option, Some, None, IfSome, Ok, Err, refl, sym, ap, subst, ◌∙◌}
+use Rattle.cm_facts.proofs.Options.{Ok_same}
 use Rattle.cm_turn.specs.Passes.{LockView, new_passes}
 use Rattle.cm_world.specs.declared.answer.Refusal.TheVariants as refusal
 use Rattle.cm_world.specs.declared.frame.Frame.{Frame}
@@ -316,13 +317,10 @@ module _ {G : Type 0} (log_of : G → Option (List GateCall)) (faults_of : G →
 
 -- ---- runs of other bytes
 
-ok_same : {A E : Type 0} {r : Result A E} {x y : A} → r ≡ Ok x → r ≡ Ok y → x ≡ y
-ok_same h k = cc (h, k)
-
 -- what holds of what a script asks for is all that is to be said of it
 pub own_served : (P : LoadedScript → Type 0) (script : Script) (status : ℕ) (served : LoadedScript) → served_script script ≡ Ok served → P served → RunsOwn P script status
 own_served P script status served is holds = record {
-  runs = λ other also. subst P (ok_same is also) holds;
+  runs = λ other also. subst P (Ok_same is also) holds;
   is_served = λ ended. (served, is);
 }
 

@@ -8,6 +8,7 @@ use Rattle.serde_json.specs.Data.{Data, array}
 use Rattle.serde_json.specs.View.{items_of}
 use Rattle.serde_json.proofs.OnLiterals.{serde_json_on_literals}
 use Rattle.cm_names.specs.Name.{IsName}
+use Rattle.cm_names.proofs.texts.NameLemmas.{name_faultless}
 use Rattle.cm_decl.specs.declared.section.Section.TheVariants as section
 use Rattle.cm_decl.specs.declared.rows.Child.{Child}
 use Rattle.cm_decl.specs.declared.environment.Environment.{Environment}
@@ -33,7 +34,7 @@ use Rattle.cm_write.specs.Writing.{debug_use_data, storage_use_data, storage_off
 use Rattle.cm_write.specs.Writing.{capability_items, use_items, offer_items}
 use Rattle.cm_read.specs.Readable.{ForSomeOf, IsCapability, IsUsage, IsOffer, IsExpose, IsStorage, IsDebugUse}
 use Rattle.cm_read.specs.Readable.{IsStorageUse, IsStorageOffer, IsEnvironment, IsReadable}
-use Rattle.cm_read.proofs.back.RoundTrip.{name_has_no_fault, section_read_back, children_read_back}
+use Rattle.cm_read.proofs.back.RoundTrip.{section_read_back, children_read_back}
 use Rattle.cm_read.proofs.back.RoundTrip.{collections_read_back, rows_before, rows_last, section_of_items}
 use Rattle.cm_read.proofs.back.RowsBack.{capability_read_back, storage_read_back, use_read_back, debug_use_read_back}
 use Rattle.cm_read.proofs.back.RowsBack.{storage_use_read_back, offer_read_back, storage_offer_read_back}
@@ -218,8 +219,8 @@ runner_parts : (d : Decl) (runner : Option (List ℕ)) (environments : List Envi
 unfolding serde_json_on_literals name_in_at name_at program_at runner_at
 runner_parts d None [] h = refl
 runner_parts d None (e ∷ es) h = refl
-runner_parts d (Some r) [] h = rw (name_has_no_fault r h) refl
-runner_parts d (Some r) (e ∷ es) h = rw (name_has_no_fault r h) refl
+runner_parts d (Some r) [] h = rw (name_faultless r h) refl
+runner_parts d (Some r) (e ∷ es) h = rw (name_faultless r h) refl
 
 known_parts : (d : Decl) (runner : Option (List ℕ)) (environments : List Environment)
     → sections_at (decl_data (with_optional d runner environments)) ≡ Ok tt

@@ -1,5 +1,5 @@
 -- Objects that are made of pairs, and that no value of a declaration nests deep or has a float.
-use Rattle.std.proofs.Common.{◌≡◌, ℕ, suc, max, ◌≤◌, List, [], ◌∷◌, ◌++◌, map, codes, Bool, true, false, ◌||◌, Option, Some, None, Ok, Less, Equal, Greater, nat_cmp, refl, sym, ap, subst, ◌∙◌, arith, rules}
+use Rattle.std.proofs.Common.{◌≡◌, ℕ, suc, max, ◌≤◌, List, [], ◌∷◌, ◌++◌, map, codes, false, Option, Some, None, Ok, Less, Equal, Greater, nat_cmp, refl, sym, ap, subst, ◌∙◌, arith, rules}
 use Rattle.std.proofs.Math.Nat.{le-max_left, le-max_right, max-le}
 use Rattle.std.specs.Cmp.Lexicographic.{slice_cmp}
 use Rattle.std.specs.Ordering.{match_ordering}
@@ -10,6 +10,7 @@ use Rattle.serde_json.specs.View.{items_of}
 use Rattle.serde_json.specs.Read as json
 use Rattle.serde_json.specs.Read.{max_depth}
 use Rattle.cm_names.specs.Rights.{RightSet, words_of}
+use Rattle.cm_facts.proofs.Booleans.{or_false_first, or_false_second}
 use Rattle.cm_decl.specs.declared.rows.Child.{Child}
 use Rattle.cm_decl.specs.declared.rows.Collection.{Collection}
 use Rattle.cm_decl.specs.declared.rows.Capability.{Capability}
@@ -61,14 +62,6 @@ abbrev ArePairs : ℕ → Pairs → Type 0
 ArePairs n [] = Unit {0}
 ArePairs n (p ∷ ps) = IsPlain n p.1 × ArePairs n ps
 
-first_false : (a b : Bool) → (a || b) ≡ false → a ≡ false
-first_false true b e = absurd (grind (arith, rules))
-first_false false b e = refl
-
-second_false : (a b : Bool) → (a || b) ≡ false → b ≡ false
-second_false true b e = absurd (grind (arith, rules))
-second_false false b e = e
-
 first_within : (a b n : ℕ) → max a b ≤ n → a ≤ n
 first_within a b n h = omega (arith, le-max_left a b, h)
 
@@ -83,11 +76,11 @@ member_plain n k d ms p q = record { no_float = rw (p.no_float, q.no_float) refl
 
 first_plain : (n : ℕ) (k : List ℕ) (d : Data) (ms : Members) → AreMembers n (member k d ms) → IsPlain n d
 first_plain n k d ms q =
-    record { no_float = first_false (has_float d) (members_have_float ms) q.no_float; numbers = q.numbers.0; shallow = first_within (depth d) (members_depth ms) n q.shallow }
+    record { no_float = or_false_first (has_float d) (members_have_float ms) q.no_float; numbers = q.numbers.0; shallow = first_within (depth d) (members_depth ms) n q.shallow }
 
 rest_plain : (n : ℕ) (k : List ℕ) (d : Data) (ms : Members) → AreMembers n (member k d ms) → AreMembers n ms
 rest_plain n k d ms q =
-    record { no_float = second_false (has_float d) (members_have_float ms) q.no_float; numbers = q.numbers.1; shallow = second_within (depth d) (members_depth ms) n q.shallow }
+    record { no_float = or_false_second (has_float d) (members_have_float ms) q.no_float; numbers = q.numbers.1; shallow = second_within (depth d) (members_depth ms) n q.shallow }
 
 put_plain : (n : ℕ) (k : List ℕ) (d : Data) (ms : Members) → IsPlain n d → AreMembers n ms → AreMembers n (put k d ms)
 put_plain n k d no_members p q = member_plain n k d no_members p q

@@ -1,10 +1,10 @@
 -- What is written for a declaration is read back: children and collections, and rows one after another.
-use Rattle.std.proofs.Common.{◌≡◌, ℕ, suc, ◌≤◌, List, [], ◌∷◌, ◌++◌, length, map, Bool, true, false, not, ◌==◌, nat_lt, nat_le, Option, Some, None, Ok, IsTrue, refl, arith, rules, get_or}
+use Rattle.std.proofs.Common.{◌≡◌, ℕ, suc, ◌≤◌, List, [], ◌∷◌, ◌++◌, length, map, Bool, true, false, not, nat_lt, nat_le, Option, Some, None, Ok, IsTrue, refl, arith, rules, get_or}
 use Rattle.std.specs.Prelude.{position, All}
 use Rattle.std.proofs.lemmas.List.Quantifiers.{position-Some}
 use Rattle.serde_json.specs.Data.{Data, array}
 use Rattle.serde_json.specs.View.{items_of}
-use Rattle.cm_names.specs.Name.{IsName, name_fault, continues_name}
+use Rattle.cm_names.specs.Name.{IsName, continues_name}
 use Rattle.cm_decl.specs.declared.section.Section.{Section}
 use Rattle.cm_decl.specs.declared.section.Section.TheVariants as section
 use Rattle.cm_decl.specs.declared.rows.Durability.{Durability}
@@ -14,6 +14,8 @@ use Rattle.cm_decl.specs.declared.rows.Durability.TheVariants.{Transient, Single
 use Rattle.cm_read.specs.declared.fault.ItemPlace.{ItemPlace}
 use Rattle.cm_read.specs.Numbers.{max_rows}
 use Rattle.cm_names.specs.Urls.{is_url_text}
+use Rattle.cm_names.proofs.texts.NameLemmas.{name_faultless}
+use Rattle.cm_facts.proofs.Lists.{length_cons_zero}
 use Rattle.cm_read.specs.Sections.{next, rows_at, section_at}
 use Rattle.cm_read.specs.Reading.{ReadResult, start}
 use Rattle.cm_read.specs.Items.{child_at, collection_at}
@@ -32,25 +34,18 @@ no_bad_rest bs h = by (position (λ c. not (continues_name c)) bs) refl
     by None e = e
     by (Some i) e = let f = position-Some (λ c. not (continues_name c)) bs i 0 e in absurd (clash (continues_name (get_or bs i 0)) (h i 0 f.0) f.1)
 
-not_empty : (b : ℕ) (bs : List ℕ) → (length (b ∷ bs) == 0) ≡ false
-not_empty b bs = grind (arith, rules)
-
 not_long : (t : List ℕ) → length t ≤ 255 → nat_lt 255 (length t) ≡ false
 not_long t h = grind (arith, rules)
-
-pub name_has_no_fault : (t : List ℕ) → IsName t → name_fault t ≡ None
-name_has_no_fault [] h = absurd h
-name_has_no_fault (b ∷ bs) h = rw (not_empty b bs) (rw (not_long (b ∷ bs) h.0) (rw h.1 (rw (no_bad_rest bs h.2) refl)))
 
 child_parts : (at : ItemPlace) (name url : List ℕ) (eager : Bool) (environment : Option (List ℕ)) → IsName name
     → IsTrue (is_url_text url) → ForSomeOf environment IsName
     → child_at at (child_data (record { name = name; url = url; eager = eager; environment = environment }))
     ≡ Ok (record { name = name; url = url; eager = eager; environment = environment } ∷ [])
 unfolding read_on_literals
-child_parts at name url true None n u e = rw (name_has_no_fault name n) (rw u refl)
-child_parts at name url false None n u e = rw (name_has_no_fault name n) (rw u refl)
-child_parts at name url true (Some x) n u e = rw (name_has_no_fault name n) (rw u (rw (name_has_no_fault x e) refl))
-child_parts at name url false (Some x) n u e = rw (name_has_no_fault name n) (rw u (rw (name_has_no_fault x e) refl))
+child_parts at name url true None n u e = rw (name_faultless name n) (rw u refl)
+child_parts at name url false None n u e = rw (name_faultless name n) (rw u refl)
+child_parts at name url true (Some x) n u e = rw (name_faultless name n) (rw u (rw (name_faultless x e) refl))
+child_parts at name url false (Some x) n u e = rw (name_faultless name n) (rw u (rw (name_faultless x e) refl))
 
 pub child_read_back : (at : ItemPlace) (c : Child) → IsChildRow c → child_at at (child_data c) ≡ Ok (c ∷ [])
 child_read_back at c h = child_parts at c.name c.url c.eager c.environment h.name h.url h.environment
@@ -60,14 +55,14 @@ collection_parts : (at : ItemPlace) (name : List ℕ) (w : Durability) (d : Bool
     → collection_at at (collection_data (record { name = name; durability = w; dynamic_offers = d; environment = environment }))
     ≡ Ok (record { name = name; durability = w; dynamic_offers = d; environment = environment } ∷ [])
 unfolding read_on_literals
-collection_parts at name Transient true None n e = rw (name_has_no_fault name n) refl
-collection_parts at name SingleRun true None n e = rw (name_has_no_fault name n) refl
-collection_parts at name Transient false None n e = rw (name_has_no_fault name n) refl
-collection_parts at name SingleRun false None n e = rw (name_has_no_fault name n) refl
-collection_parts at name Transient true (Some x) n e = rw (name_has_no_fault name n) (rw (name_has_no_fault x e) refl)
-collection_parts at name SingleRun true (Some x) n e = rw (name_has_no_fault name n) (rw (name_has_no_fault x e) refl)
-collection_parts at name Transient false (Some x) n e = rw (name_has_no_fault name n) (rw (name_has_no_fault x e) refl)
-collection_parts at name SingleRun false (Some x) n e = rw (name_has_no_fault name n) (rw (name_has_no_fault x e) refl)
+collection_parts at name Transient true None n e = rw (name_faultless name n) refl
+collection_parts at name SingleRun true None n e = rw (name_faultless name n) refl
+collection_parts at name Transient false None n e = rw (name_faultless name n) refl
+collection_parts at name SingleRun false None n e = rw (name_faultless name n) refl
+collection_parts at name Transient true (Some x) n e = rw (name_faultless name n) (rw (name_faultless x e) refl)
+collection_parts at name SingleRun true (Some x) n e = rw (name_faultless name n) (rw (name_faultless x e) refl)
+collection_parts at name Transient false (Some x) n e = rw (name_faultless name n) (rw (name_faultless x e) refl)
+collection_parts at name SingleRun false (Some x) n e = rw (name_faultless name n) (rw (name_faultless x e) refl)
 
 pub collection_read_back : (at : ItemPlace) (c : Collection) → IsCollection c → collection_at at (collection_data c) ≡ Ok (c ∷ [])
 collection_read_back at c h = collection_parts at c.name c.durability c.dynamic_offers c.environment h.name h.environment

@@ -22,6 +22,7 @@ use Rattle.cm_names.specs.declared.availability.Availability.{Availability}
 use Rattle.cm_names.specs.declared.availability.Availability.TheVariants.{Required, Optional, Transitional}
 use Rattle.cm_names.specs.declared.availability.Availability.TheVariants.{SameAsTarget}
 use Rattle.std.specs.Prelude.{All, ◌≢◌, Bool}
+use Rattle.cm_names.proofs.texts.NameLemmas.{name_faultless}
 use Rattle.cm_decl.specs.declared.rows.Child.{Child}
 use Rattle.cm_decl.specs.declared.environment.Registration.{Registration}
 use Rattle.cm_decl.specs.declared.environment.Environment.{Environment}
@@ -49,7 +50,6 @@ use Rattle.cm_read.specs.Readable.{MayHave, IsSubDir, IsUsage, IsOffer, IsExpose
 use Rattle.cm_read.specs.Readable.{MustHave, AreRights, IsStaticSource, IsStorageSource, ForSomeOf}
 use Rattle.cm_read.specs.Readable.{IsRegistration, IsEnvironment, IsDebugUse, IsStorage, IsStorageUse}
 use Rattle.cm_read.specs.Readable.{IsStorageOffer}
-use Rattle.cm_read.proofs.back.RoundTrip.{name_has_no_fault}
 use Rattle.cm_read.proofs.examples.OnLiterals.{read_on_literals}
 
 texts_back : (at : ItemPlace) (key : List ℕ) (ts : List (List ℕ)) → texts_in_at at key (items_of (map string ts)) ≡ Ok ts
@@ -89,7 +89,7 @@ settled_back children origin.Void = refl
 
 child_back : (at : ItemPlace) (coll : Option (List ℕ)) (name : List ℕ) → coll ≡ None → IsName name → use_from_in_at at (string (origin_text (origin.Child (record { coll = coll; name = name })))) ≡ Ok (origin.Child (record { coll = coll; name = name }))
 unfolding read_on_literals
-child_back at None name e h = rw (name_has_no_fault name h) refl
+child_back at None name e h = rw (name_faultless name h) refl
 child_back at (Some c) name e h = absurd (grind (arith, rules))
 
 pub use_from_back : (at : ItemPlace) (o : Origin) → IsOriginRow true false o → use_from_in_at at (string (origin_text o)) ≡ Ok o
@@ -104,7 +104,7 @@ source_child_back : (at : ItemPlace) (coll : Option (List ℕ)) (name : List ℕ
     → use_source_in_at at (string (origin_text (origin.Child (record { coll = coll; name = name }))))
     ≡ Ok (source.From (origin.Child (record { coll = coll; name = name })))
 unfolding read_on_literals
-source_child_back at None name e h = rw (name_has_no_fault name h) refl
+source_child_back at None name e h = rw (name_faultless name h) refl
 source_child_back at (Some c) name e h = absurd (grind (arith, rules))
 
 pub use_source_back : (at : ItemPlace) (o : Origin) → IsOriginRow true false o
@@ -120,7 +120,7 @@ static_child_back : (at : ItemPlace) (coll : Option (List ℕ)) (name : List ℕ
     → static_from_in_at at (string (origin_text (origin.Child (record { coll = coll; name = name }))))
     ≡ Ok (origin.Child (record { coll = coll; name = name }))
 unfolding read_on_literals
-static_child_back at None name e h = rw (name_has_no_fault name h) refl
+static_child_back at None name e h = rw (name_faultless name h) refl
 static_child_back at (Some c) name e h = absurd (grind (arith, rules))
 
 pub static_from_back : (at : ItemPlace) (o : Origin) → IsStaticSource o
@@ -142,10 +142,10 @@ storage_from_back origin.Void h = refl
 
 capability_parts : (at : ItemPlace) (k : Kind) (name path : List ℕ) (rights : Option RightSet) → IsName name → IsTrue (is_path path) → MustHave k rights AreRights → capability_at at (capability_data (record { kind = k; name = name; path = path; rights = rights })) ≡ Ok (capability_row.Capability (record { kind = k; name = name; path = path; rights = rights }) ∷ [])
 unfolding read_on_literals
-capability_parts at kind.Protocol name path None n p r = rw (name_has_no_fault name n) (rw (path_faultless path p) refl)
+capability_parts at kind.Protocol name path None n p r = rw (name_faultless name n) (rw (path_faultless path p) refl)
 capability_parts at kind.Protocol name path (Some x) n p r = absurd (grind (arith, rules))
 capability_parts at kind.Directory name path None n p r = absurd r
-capability_parts at kind.Directory name path (Some x) n p r = rw (name_has_no_fault name n) (rw (path_faultless path p) (rw (rights_back at (codes "rights") x r) refl))
+capability_parts at kind.Directory name path (Some x) n p r = rw (name_faultless name n) (rw (path_faultless path p) (rw (rights_back at (codes "rights") x r) refl))
 
 pub capability_read_back : (at : ItemPlace) (c : Capability) → IsCapability c → capability_at at (capability_data c) ≡ Ok (capability_row.Capability c ∷ [])
 capability_read_back at c h = capability_parts at c.kind c.name c.path c.rights h.name h.path h.rights
@@ -155,40 +155,40 @@ storage_parts : (at : ItemPlace) (name : List ℕ) (from : Origin) (backing : Li
     → capability_at at (storage_data (record { name = name; from = from; backing = backing; subdir = subdir; by_moniker = by_moniker }))
     ≡ Ok (capability_row.Storage (record { name = name; from = from; backing = backing; subdir = subdir; by_moniker = by_moniker }) ∷ [])
 unfolding read_on_literals
-storage_parts at name from backing None true n f b s = rw (name_has_no_fault name n) (rw (static_from_back at from f) (rw (name_has_no_fault backing b) refl))
-storage_parts at name from backing None false n f b s = rw (name_has_no_fault name n) (rw (static_from_back at from f) (rw (name_has_no_fault backing b) refl))
-storage_parts at name from backing (Some y) true n f b s = rw (name_has_no_fault name n) (rw (static_from_back at from f) (rw (name_has_no_fault backing b) (rw (subdir_faultless y s) refl)))
-storage_parts at name from backing (Some y) false n f b s = rw (name_has_no_fault name n) (rw (static_from_back at from f) (rw (name_has_no_fault backing b) (rw (subdir_faultless y s) refl)))
+storage_parts at name from backing None true n f b s = rw (name_faultless name n) (rw (static_from_back at from f) (rw (name_faultless backing b) refl))
+storage_parts at name from backing None false n f b s = rw (name_faultless name n) (rw (static_from_back at from f) (rw (name_faultless backing b) refl))
+storage_parts at name from backing (Some y) true n f b s = rw (name_faultless name n) (rw (static_from_back at from f) (rw (name_faultless backing b) (rw (subdir_faultless y s) refl)))
+storage_parts at name from backing (Some y) false n f b s = rw (name_faultless name n) (rw (static_from_back at from f) (rw (name_faultless backing b) (rw (subdir_faultless y s) refl)))
 
 pub storage_read_back : (at : ItemPlace) (s : Storage) → IsStorage s → capability_at at (storage_data s) ≡ Ok (capability_row.Storage s ∷ [])
 storage_read_back at s h = storage_parts at s.name s.from s.backing s.subdir s.by_moniker h.name h.from h.backing h.subdir
 
 pub debug_use_read_back : (at : ItemPlace) (u : DebugUse) → IsDebugUse u → use_at at (debug_use_data u) ≡ Ok (use_row.Debug u ∷ [])
 unfolding read_on_literals
-debug_use_read_back at u h = rw (name_has_no_fault u.name h.name) (rw (path_faultless u.path h.path) refl)
+debug_use_read_back at u h = rw (name_faultless u.name h.name) (rw (path_faultless u.path h.path) refl)
 
 pub storage_use_read_back : (at : ItemPlace) (u : StorageUse) → IsStorageUse u → use_at at (storage_use_data u) ≡ Ok (use_row.Storage u ∷ [])
 unfolding read_on_literals
-storage_use_read_back at u h = rw (name_has_no_fault u.name h.name) (rw (path_faultless u.path h.path) refl)
+storage_use_read_back at u h = rw (name_faultless u.name h.name) (rw (path_faultless u.path h.path) refl)
 
 pub storage_offer_read_back : (children : List Child) (at : ItemPlace) (o : StorageOffer) → IsStorageOffer o
     → offer_at children at (storage_offer_data o) ≡ Ok (offered.Storage o ∷ [])
 unfolding read_on_literals
 storage_offer_read_back children at o h =
-    rw (name_has_no_fault o.source_name h.source_name) (rw (storage_from_back o.from h.from) (rw (name_has_no_fault o.to h.to)
-    (rw (name_has_no_fault o.target_name h.target_name) refl)))
+    rw (name_faultless o.source_name h.source_name) (rw (storage_from_back o.from h.from) (rw (name_faultless o.to h.to)
+    (rw (name_faultless o.target_name h.target_name) refl)))
 
 runner_read_back : (at : ItemPlace) (r : Registration) → IsRegistration r
     → registration_at Runners at (registration_data (codes "runner") r) ≡ Ok (r ∷ [])
 unfolding read_on_literals
 runner_read_back at r h =
-    rw (name_has_no_fault r.name h.name) (rw (static_from_back at r.from h.from) (rw (name_has_no_fault r.target h.target) refl))
+    rw (name_faultless r.name h.name) (rw (static_from_back at r.from h.from) (rw (name_faultless r.target h.target) refl))
 
 debug_read_back : (at : ItemPlace) (r : Registration) → IsRegistration r
     → registration_at Debug at (registration_data (codes "protocol") r) ≡ Ok (r ∷ [])
 unfolding read_on_literals
 debug_read_back at r h =
-    rw (name_has_no_fault r.name h.name) (rw (static_from_back at r.from h.from) (rw (name_has_no_fault r.target h.target) refl))
+    rw (name_faultless r.name h.name) (rw (static_from_back at r.from h.from) (rw (name_faultless r.target h.target) refl))
 
 registrations_back : (which : Registry) (key : List ℕ) (at : ItemPlace) (rs : List Registration)
     → ((at : ItemPlace) (r : Registration) → IsRegistration r → registration_at which at (registration_data key r) ≡ Ok (r ∷ []))
@@ -202,15 +202,15 @@ environment_parts : (at : ItemPlace) (name : List ℕ) (extends : Bool) (runners
     → environment_item_at at (environment_data (record { name = name; extends = extends; runners = runners; debug = debug }))
     ≡ Ok (record { name = name; extends = extends; runners = runners; debug = debug } ∷ [])
 unfolding read_on_literals
-environment_parts at name true runners debug n r d = rw (name_has_no_fault name n) (rw (registrations_back Runners (codes "runner") at runners runner_read_back r) (rw (registrations_back Debug (codes "protocol") at debug debug_read_back d) refl))
-environment_parts at name false runners debug n r d = rw (name_has_no_fault name n) (rw (registrations_back Runners (codes "runner") at runners runner_read_back r) (rw (registrations_back Debug (codes "protocol") at debug debug_read_back d) refl))
+environment_parts at name true runners debug n r d = rw (name_faultless name n) (rw (registrations_back Runners (codes "runner") at runners runner_read_back r) (rw (registrations_back Debug (codes "protocol") at debug debug_read_back d) refl))
+environment_parts at name false runners debug n r d = rw (name_faultless name n) (rw (registrations_back Runners (codes "runner") at runners runner_read_back r) (rw (registrations_back Debug (codes "protocol") at debug debug_read_back d) refl))
 
 pub environment_read_back : (at : ItemPlace) (e : Environment) → IsEnvironment e → environment_item_at at (environment_data e) ≡ Ok (e ∷ [])
 environment_read_back at e h = environment_parts at e.name e.extends e.runners e.debug h.name h.runners h.debug
 
 offer_child_back : (at : ItemPlace) (coll : Option (List ℕ)) (name : List ℕ) → coll ≡ None → IsName name → offer_from_in_at at (string (origin_text (origin.Child (record { coll = coll; name = name })))) ≡ Ok (origin.Child (record { coll = coll; name = name }))
 unfolding read_on_literals
-offer_child_back at None name e h = rw (name_has_no_fault name h) refl
+offer_child_back at None name e h = rw (name_faultless name h) refl
 offer_child_back at (Some c) name e h = absurd (grind (arith, rules))
 
 pub offer_from_back : (at : ItemPlace) (o : Origin) → IsOriginRow true true o → offer_from_in_at at (string (origin_text o)) ≡ Ok o
@@ -223,7 +223,7 @@ offer_from_back at origin.Void h = refl
 
 expose_child_back : (at : ItemPlace) (coll : Option (List ℕ)) (name : List ℕ) → coll ≡ None → IsName name → expose_from_in_at at (string (origin_text (origin.Child (record { coll = coll; name = name })))) ≡ Ok (origin.Child (record { coll = coll; name = name }))
 unfolding read_on_literals
-expose_child_back at None name e h = rw (name_has_no_fault name h) refl
+expose_child_back at None name e h = rw (name_faultless name h) refl
 expose_child_back at (Some c) name e h = absurd (grind (arith, rules))
 
 pub expose_from_back : (at : ItemPlace) (o : Origin) → IsOriginRow false true o → expose_from_in_at at (string (origin_text o)) ≡ Ok o
@@ -236,38 +236,38 @@ expose_from_back at origin.Void h = refl
 
 use_parts : (at : ItemPlace) (k : Kind) (name : List ℕ) (from : Origin) (path : List ℕ) (rights : Option RightSet) (subdir : Option (List ℕ)) (d : Dependency) (a : Availability) → IsName name → IsOriginRow true false from → IsTrue (is_path path) → MustHave k rights AreRights → MayHave k subdir IsSubDir → a ≢ SameAsTarget → use_at at (use_data (record { kind = k; name = name; from = from; path = path; rights = rights; subdir = subdir; dependency = d; availability = a })) ≡ Ok (use_row.Usage (record { kind = k; name = name; from = from; path = path; rights = rights; subdir = subdir; dependency = d; availability = a }) ∷ [])
 unfolding read_on_literals
-use_parts at kind.Protocol name from path None None d a n f p r s g = rw (name_has_no_fault name n) (rw (use_source_back at from f) (rw (path_faultless path p) (rw (dependency_back d) (rw (availability_back a g) refl))))
+use_parts at kind.Protocol name from path None None d a n f p r s g = rw (name_faultless name n) (rw (use_source_back at from f) (rw (path_faultless path p) (rw (dependency_back d) (rw (availability_back a g) refl))))
 use_parts at kind.Protocol name from path (Some x) subdir d a n f p r s g = absurd (grind (arith, rules))
 use_parts at kind.Protocol name from path None (Some x) d a n f p r s g = absurd (grind (arith, rules))
 use_parts at kind.Directory name from path None subdir d a n f p r s g = absurd r
-use_parts at kind.Directory name from path (Some x) None d a n f p r s g = rw (name_has_no_fault name n) (rw (use_from_back at from f) (rw (path_faultless path p) (rw (rights_back at (codes "rights") x r) (rw (dependency_back d) (rw (availability_back a g) refl)))))
-use_parts at kind.Directory name from path (Some x) (Some y) d a n f p r s g = rw (name_has_no_fault name n) (rw (use_from_back at from f) (rw (path_faultless path p) (rw (rights_back at (codes "rights") x r) (rw (subdir_faultless y s) (rw (dependency_back d) (rw (availability_back a g) refl))))))
+use_parts at kind.Directory name from path (Some x) None d a n f p r s g = rw (name_faultless name n) (rw (use_from_back at from f) (rw (path_faultless path p) (rw (rights_back at (codes "rights") x r) (rw (dependency_back d) (rw (availability_back a g) refl)))))
+use_parts at kind.Directory name from path (Some x) (Some y) d a n f p r s g = rw (name_faultless name n) (rw (use_from_back at from f) (rw (path_faultless path p) (rw (rights_back at (codes "rights") x r) (rw (subdir_faultless y s) (rw (dependency_back d) (rw (availability_back a g) refl))))))
 
 pub use_read_back : (at : ItemPlace) (u : Usage) → IsUsage u → use_at at (use_data u) ≡ Ok (use_row.Usage u ∷ [])
 use_read_back at u h = use_parts at u.kind u.name u.from u.path u.rights u.subdir u.dependency u.availability h.name h.from h.path h.rights h.subdir h.availability
 
 offer_parts : (children : List Child) (at : ItemPlace) (k : Kind) (to name : List ℕ) (from : Origin) (target : List ℕ) (rights : Option RightSet) (subdir : Option (List ℕ)) (d : Dependency) (a : Availability) → IsName to → IsName name → IsOriginRow true true from → IsName target → MayHave k rights AreRights → MayHave k subdir IsSubDir → offer_at children at (offer_data (record { to = to; give = record { kind = k; source_name = name; from = from; target_name = target; rights = rights; subdir = subdir; dependency = d; availability = a } })) ≡ Ok (offered.Offer (record { to = to; give = record { kind = k; source_name = name; from = from; target_name = target; rights = rights; subdir = subdir; dependency = d; availability = a } }) ∷ [])
 unfolding read_on_literals
-offer_parts children at kind.Protocol to name from target None None d a o n f t r s = rw (name_has_no_fault name n) (rw (offer_from_back at from f) (rw (name_has_no_fault to o) (rw (name_has_no_fault target t) (rw (dependency_back d) (rw (given_availability_back a) (rw (settled_back children from) refl))))))
+offer_parts children at kind.Protocol to name from target None None d a o n f t r s = rw (name_faultless name n) (rw (offer_from_back at from f) (rw (name_faultless to o) (rw (name_faultless target t) (rw (dependency_back d) (rw (given_availability_back a) (rw (settled_back children from) refl))))))
 offer_parts children at kind.Protocol to name from target (Some x) subdir d a o n f t r s = absurd (grind (arith, rules))
 offer_parts children at kind.Protocol to name from target None (Some y) d a o n f t r s = absurd (grind (arith, rules))
-offer_parts children at kind.Directory to name from target None None d a o n f t r s = rw (name_has_no_fault name n) (rw (offer_from_back at from f) (rw (name_has_no_fault to o) (rw (name_has_no_fault target t) (rw (dependency_back d) (rw (given_availability_back a) (rw (settled_back children from) refl))))))
-offer_parts children at kind.Directory to name from target (Some x) None d a o n f t r s = rw (name_has_no_fault name n) (rw (offer_from_back at from f) (rw (name_has_no_fault to o) (rw (name_has_no_fault target t) (rw (rights_back at (codes "rights") x r) (rw (dependency_back d) (rw (given_availability_back a) (rw (settled_back children from) refl)))))))
-offer_parts children at kind.Directory to name from target None (Some y) d a o n f t r s = rw (name_has_no_fault name n) (rw (offer_from_back at from f) (rw (name_has_no_fault to o) (rw (name_has_no_fault target t) (rw (subdir_faultless y s) (rw (dependency_back d) (rw (given_availability_back a) (rw (settled_back children from) refl)))))))
-offer_parts children at kind.Directory to name from target (Some x) (Some y) d a o n f t r s = rw (name_has_no_fault name n) (rw (offer_from_back at from f) (rw (name_has_no_fault to o) (rw (name_has_no_fault target t) (rw (rights_back at (codes "rights") x r) (rw (subdir_faultless y s) (rw (dependency_back d) (rw (given_availability_back a) (rw (settled_back children from) refl))))))))
+offer_parts children at kind.Directory to name from target None None d a o n f t r s = rw (name_faultless name n) (rw (offer_from_back at from f) (rw (name_faultless to o) (rw (name_faultless target t) (rw (dependency_back d) (rw (given_availability_back a) (rw (settled_back children from) refl))))))
+offer_parts children at kind.Directory to name from target (Some x) None d a o n f t r s = rw (name_faultless name n) (rw (offer_from_back at from f) (rw (name_faultless to o) (rw (name_faultless target t) (rw (rights_back at (codes "rights") x r) (rw (dependency_back d) (rw (given_availability_back a) (rw (settled_back children from) refl)))))))
+offer_parts children at kind.Directory to name from target None (Some y) d a o n f t r s = rw (name_faultless name n) (rw (offer_from_back at from f) (rw (name_faultless to o) (rw (name_faultless target t) (rw (subdir_faultless y s) (rw (dependency_back d) (rw (given_availability_back a) (rw (settled_back children from) refl)))))))
+offer_parts children at kind.Directory to name from target (Some x) (Some y) d a o n f t r s = rw (name_faultless name n) (rw (offer_from_back at from f) (rw (name_faultless to o) (rw (name_faultless target t) (rw (rights_back at (codes "rights") x r) (rw (subdir_faultless y s) (rw (dependency_back d) (rw (given_availability_back a) (rw (settled_back children from) refl))))))))
 
 pub offer_read_back : (children : List Child) (at : ItemPlace) (o : Offer) → IsOffer o → offer_at children at (offer_data o) ≡ Ok (offered.Offer o ∷ [])
 offer_read_back children at o h = offer_parts children at o.give.kind o.to o.give.source_name o.give.from o.give.target_name o.give.rights o.give.subdir o.give.dependency o.give.availability h.to h.give.source_name h.give.from h.give.target_name h.give.rights h.give.subdir
 
 expose_parts : (children : List Child) (at : ItemPlace) (k : Kind) (name : List ℕ) (from : Origin) (target : List ℕ) (rights : Option RightSet) (subdir : Option (List ℕ)) (a : Availability) → IsName name → IsOriginRow false true from → IsName target → MayHave k rights AreRights → MayHave k subdir IsSubDir → expose_at children at (expose_data (record { kind = k; source_name = name; from = from; target_name = target; rights = rights; subdir = subdir; dependency = Strong; availability = a })) ≡ Ok (record { kind = k; source_name = name; from = from; target_name = target; rights = rights; subdir = subdir; dependency = Strong; availability = a } ∷ [])
 unfolding read_on_literals
-expose_parts children at kind.Protocol name from target None None a n f t r s = rw (name_has_no_fault name n) (rw (expose_from_back at from f) (rw (name_has_no_fault target t) (rw (given_availability_back a) (rw (settled_back children from) refl))))
+expose_parts children at kind.Protocol name from target None None a n f t r s = rw (name_faultless name n) (rw (expose_from_back at from f) (rw (name_faultless target t) (rw (given_availability_back a) (rw (settled_back children from) refl))))
 expose_parts children at kind.Protocol name from target (Some x) subdir a n f t r s = absurd (grind (arith, rules))
 expose_parts children at kind.Protocol name from target None (Some y) a n f t r s = absurd (grind (arith, rules))
-expose_parts children at kind.Directory name from target None None a n f t r s = rw (name_has_no_fault name n) (rw (expose_from_back at from f) (rw (name_has_no_fault target t) (rw (given_availability_back a) (rw (settled_back children from) refl))))
-expose_parts children at kind.Directory name from target (Some x) None a n f t r s = rw (name_has_no_fault name n) (rw (expose_from_back at from f) (rw (name_has_no_fault target t) (rw (rights_back at (codes "rights") x r) (rw (given_availability_back a) (rw (settled_back children from) refl)))))
-expose_parts children at kind.Directory name from target None (Some y) a n f t r s = rw (name_has_no_fault name n) (rw (expose_from_back at from f) (rw (name_has_no_fault target t) (rw (subdir_faultless y s) (rw (given_availability_back a) (rw (settled_back children from) refl)))))
-expose_parts children at kind.Directory name from target (Some x) (Some y) a n f t r s = rw (name_has_no_fault name n) (rw (expose_from_back at from f) (rw (name_has_no_fault target t) (rw (rights_back at (codes "rights") x r) (rw (subdir_faultless y s) (rw (given_availability_back a) (rw (settled_back children from) refl))))))
+expose_parts children at kind.Directory name from target None None a n f t r s = rw (name_faultless name n) (rw (expose_from_back at from f) (rw (name_faultless target t) (rw (given_availability_back a) (rw (settled_back children from) refl))))
+expose_parts children at kind.Directory name from target (Some x) None a n f t r s = rw (name_faultless name n) (rw (expose_from_back at from f) (rw (name_faultless target t) (rw (rights_back at (codes "rights") x r) (rw (given_availability_back a) (rw (settled_back children from) refl)))))
+expose_parts children at kind.Directory name from target None (Some y) a n f t r s = rw (name_faultless name n) (rw (expose_from_back at from f) (rw (name_faultless target t) (rw (subdir_faultless y s) (rw (given_availability_back a) (rw (settled_back children from) refl)))))
+expose_parts children at kind.Directory name from target (Some x) (Some y) a n f t r s = rw (name_faultless name n) (rw (expose_from_back at from f) (rw (name_faultless target t) (rw (rights_back at (codes "rights") x r) (rw (subdir_faultless y s) (rw (given_availability_back a) (rw (settled_back children from) refl))))))
 
 pub expose_read_back : (children : List Child) (at : ItemPlace) (g : Give) → IsExpose g → expose_at children at (expose_data g) ≡ Ok (g ∷ [])
 expose_read_back children at g h =

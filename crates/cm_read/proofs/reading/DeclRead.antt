@@ -25,6 +25,7 @@ use Rattle.cm_read.specs.Fields.{object_at}
 use Rattle.std.specs.Prelude.{◌+◌, filter_map, is_none}
 use Rattle.std.proofs.Common.{◌∷◌, ap}
 use Rattle.std.proofs.lemmas.Bool.{and_from}
+use Rattle.cm_facts.proofs.Lists.{All_filter_map}
 use Rattle.cm_decl.specs.declared.environment.Registration.{Registration}
 use Rattle.cm_decl.specs.declared.environment.Environment.{Environment}
 use Rattle.cm_decl.specs.declared.storage.Storage.{Storage}
@@ -49,7 +50,7 @@ use Rattle.cm_read.specs.Readable.{IsOriginRow, IsStaticSource, IsStorageSource,
 use Rattle.cm_read.specs.Readable.{IsCollection, IsCapability, IsStorage, IsUsage, IsDebugUse, IsStorageUse}
 use Rattle.cm_read.specs.Readable.{IsOffer, IsStorageOffer, IsExpose, IsRegistration, IsEnvironment, IsReadable}
 use Rattle.cm_read.specs.ReadableInside.{WhatIsReadIsReadable, WhatIsReadIsReadBack, ReadableIsWellFormed}
-use Rattle.cm_read.proofs.reading.ReadLemmas.{Reads, fails, gives, any, next, tested, given, taken}
+use Rattle.cm_read.proofs.reading.ReadLemmas.{Reads, fails, gives, any, next, tested, given}
 use Rattle.cm_read.proofs.reading.FieldsRead.{name_reads}
 use Rattle.cm_read.proofs.back.TextBack.{texts_are_read_back_lem}
 use Rattle.cm_read.proofs.reading.RowsRead.{child_reads, collection_reads, IsCapabilityRow, capability_reads, IsUseRow}
@@ -141,22 +142,22 @@ declared_is runner r named h = record {
   collections = h.collections;
   capabilities = record {
     limit = omega (arith, capability_count r.capabilities, h.capabilities.limit);
-    each = taken IsCapabilityRow IsCapability capability_in r.capabilities (λ row is. is.0) h.capabilities.each;
+    each = All_filter_map IsCapabilityRow IsCapability capability_in r.capabilities (λ row is. is.0) h.capabilities.each;
   };
   uses = record {
     limit = omega (arith, use_count r.uses, h.uses.limit);
-    each = taken IsUseRow IsUsage usage_in r.uses (λ row is. is.0) h.uses.each;
+    each = All_filter_map IsUseRow IsUsage usage_in r.uses (λ row is. is.0) h.uses.each;
   };
   offers = record {
     limit = omega (arith, offer_count r.offers, h.offers.limit);
-    each = taken IsOfferRow IsOffer offer_in r.offers (λ row is. is.0) h.offers.each;
+    each = All_filter_map IsOfferRow IsOffer offer_in r.offers (λ row is. is.0) h.offers.each;
   };
   exposes = h.exposes;
   environments = h.environments;
-  debug_uses = taken IsUseRow IsDebugUse debug_use_in r.uses (λ row is. is.1.0) h.uses.each;
-  storages = taken IsCapabilityRow IsStorage storage_in r.capabilities (λ row is. is.1) h.capabilities.each;
-  storage_uses = taken IsUseRow IsStorageUse storage_use_in r.uses (λ row is. is.1.1) h.uses.each;
-  storage_offers = taken IsOfferRow IsStorageOffer storage_offer_in r.offers (λ row is. is.1) h.offers.each;
+  debug_uses = All_filter_map IsUseRow IsDebugUse debug_use_in r.uses (λ row is. is.1.0) h.uses.each;
+  storages = All_filter_map IsCapabilityRow IsStorage storage_in r.capabilities (λ row is. is.1) h.capabilities.each;
+  storage_uses = All_filter_map IsUseRow IsStorageUse storage_use_in r.uses (λ row is. is.1.1) h.uses.each;
+  storage_offers = All_filter_map IsOfferRow IsStorageOffer storage_offer_in r.offers (λ row is. is.1) h.offers.each;
   capability_rows = omega (arith, capability_count r.capabilities, h.capabilities.limit);
   use_rows = omega (arith, use_count r.uses, h.uses.limit);
   offer_rows = omega (arith, offer_count r.offers, h.offers.limit);

@@ -5,6 +5,7 @@ use Rattle.std.proofs.lemmas.List.Elements.{All-nil, All-append}
 use Rattle.serde_json.specs.Data.{Data, Items, no_items, item}
 use Rattle.serde_json.specs.Find.{get, as_array}
 use Rattle.cm_names.specs.Name.{IsName}
+use Rattle.cm_facts.proofs.Lists.{All_one, All_map}
 use Rattle.cm_decl.specs.declared.kind.Kind.TheVariants as kind
 use Rattle.cm_decl.specs.declared.origin.Origin.{Origin}
 use Rattle.cm_read.specs.declared.fault.ItemPlace.{ItemPlace}
@@ -19,7 +20,7 @@ use Rattle.cm_read.specs.Environments.{registered_at, environment_row_at}
 use Rattle.cm_read.specs.Environments.{registration, registration_at, registrations_in_at, in_field, inside}
 use Rattle.cm_read.specs.Environments.{registry_in_at, registry_at, environment_fields, environment_item_at}
 use Rattle.cm_read.specs.Readable.{IsStaticSource, ForSomeOf, IsRegistration, IsEnvironment}
-use Rattle.cm_read.proofs.reading.ReadLemmas.{Reads, fails, gives, any, next, defaulted, one_row, all_mapped}
+use Rattle.cm_read.proofs.reading.ReadLemmas.{Reads, fails, gives, any, next, defaulted}
 use Rattle.cm_read.proofs.reading.FieldsRead.{name_reads, static_from_reads}
 use Rattle.cm_read.proofs.reading.RowsRead.{item_names_reads, as_reads, target_is_name}
 
@@ -27,7 +28,7 @@ use Rattle.cm_read.proofs.reading.RowsRead.{item_names_reads, as_reads, target_i
 
 runner_names_reads : (at : ItemPlace) (d : Data) → Reads (All IsName) (runner_names_at at d)
 unfolding runner_names_at
-runner_names_reads at d = next (name_reads at (codes "runner") d) (λ name n. gives (one_row IsName name n))
+runner_names_reads at d = next (name_reads at (codes "runner") d) (λ name n. gives (All_one IsName name n))
 
 registration_names_reads : (which : Registry) (at : ItemPlace) (d : Data) → Reads (All IsName) (registration_names_at which at d)
 registration_names_reads Runners at d = runner_names_reads at d
@@ -36,7 +37,7 @@ registration_names_reads Debug at d = item_names_reads kind.Protocol at d
 registrations_are : (from : Origin) (target : Option (List ℕ)) (names : List (List ℕ)) → IsStaticSource from
     → ForSomeOf target IsName → All IsName names → All IsRegistration (map (registration from target) names)
 registrations_are from target names f t ns =
-    all_mapped IsName IsRegistration (registration from target) names
+    All_map IsName IsRegistration (registration from target) names
     (λ name n. record { name = n; from = f; target = target_is_name target name t n }) ns
 
 registration_reads : (which : Registry) (at : ItemPlace) (d : Data) → Reads (All IsRegistration) (registration_at which at d)
@@ -80,5 +81,5 @@ environment_item_reads at d =
     next (any (extends_at at d)) (λ extends _.
     next (registry_reads Runners at d) (λ runners r.
     next (registry_reads Debug at d) (λ debug g.
-    gives (one_row IsEnvironment (record { name = name; extends = extends; runners = runners; debug = debug })
+    gives (All_one IsEnvironment (record { name = name; extends = extends; runners = runners; debug = debug })
     (record { name = n; runners = r; debug = g }))))))))

@@ -20,10 +20,10 @@ use Rattle.cm_names.specs.Steps.{◌>>=◌}
 use Rattle.cm_read.specs.Reading.{bad}
 use Rattle.cm_read.specs.Fields.{needed_at, text_at, name_from, name_in_at, name_at, url_at, path_in_at, path_at, subdir_in_at, subdir_at, texts_in_at, texts_at, names_at, behind_mark, reference_from, references_at, rights_from, rights_in_at, rights_at}
 use Rattle.std.specs.Prelude.{◌≢◌, not, ◌&&◌, if◌then◌else◌}
-use Rattle.std.proofs.lemmas.Bool.{or_left}
 use Rattle.cm_names.specs.declared.availability.Availability.TheVariants.{Required, Optional, Transitional}
 use Rattle.cm_names.specs.declared.availability.Availability.TheVariants.{SameAsTarget}
 use Rattle.cm_names.specs.Urls.{is_url_text}
+use Rattle.cm_facts.proofs.Rights.{has_only, has_union}
 use Rattle.cm_decl.specs.declared.rows.Child.{Child}
 use Rattle.cm_read.specs.declared.rows.UseSource.{UseSource}
 use Rattle.cm_read.specs.declared.rows.UseSource.TheVariants as source
@@ -102,20 +102,9 @@ pub record HasRight (r : RightSet) : Type 0 where
   pub right : Right
   pub here : has r right ≡ true
 
-only_has : (x : Right) → has (only x) x ≡ true
-only_has Connect = refl
-only_has Enumerate = refl
-only_has Execute = refl
-only_has GetAttributes = refl
-only_has ModifyDirectory = refl
-only_has ReadBytes = refl
-only_has Traverse = refl
-only_has UpdateAttributes = refl
-only_has WriteBytes = refl
-
 named_means : (o : Option Right) → Means HasRight (option_map only o)
 named_means None = means_nothing
-named_means (Some x) = record { value = record { right = x; here = only_has x } }
+named_means (Some x) = record { value = record { right = x; here = has_only x } }
 
 connects : (r : RightSet) → r.connect ≡ true → HasRight r
 connects r e = record { right = Connect; here = e }
@@ -129,17 +118,6 @@ word_means w =
     (means (bytes_eq w (codes "rw*")) (union reading writing) (connects (union reading writing) refl)
     (means (bytes_eq w (codes "rx*")) (union reading executing) (connects (union reading executing) refl)
     (named_means (right_named w))))))
-
-union_has : (a b : RightSet) (x : Right) → has a x ≡ true → has (union a b) x ≡ true
-union_has a b Connect e = or_left a.connect b.connect e
-union_has a b Enumerate e = or_left a.enumerate b.enumerate e
-union_has a b Execute e = or_left a.execute b.execute e
-union_has a b GetAttributes e = or_left a.get_attributes b.get_attributes e
-union_has a b ModifyDirectory e = or_left a.modify_directory b.modify_directory e
-union_has a b ReadBytes e = or_left a.read_bytes b.read_bytes e
-union_has a b Traverse e = or_left a.traverse b.traverse e
-union_has a b UpdateAttributes e = or_left a.update_attributes b.update_attributes e
-union_has a b WriteBytes e = or_left a.write_bytes b.write_bytes e
 
 none_has : (x : Right) → has no_rights x ≡ true → ⊥
 none_has Connect e = true≢false (sym e)
@@ -156,7 +134,7 @@ some_rights : (r : RightSet) → HasRight r → AreRights r
 some_rights r h e = none_has h.right (ap (λ s. has s h.right) (sym e) ∙ h.here)
 
 with_reads : (at : ItemPlace) (key : List ℕ) (s : RightSet) (others : Result RightSet RightsFault) → HasRight s → Reads AreRights (rights_from at key (with_rights s others))
-with_reads at key s (Ok q) h = gives (some_rights (union s q) (record { right = h.right; here = union_has s q h.right h.here }))
+with_reads at key s (Ok q) h = gives (some_rights (union s q) (record { right = h.right; here = has_union h.right s q h.here }))
 with_reads at key s (Err e) h = fails _
 
 first_reads : (at : ItemPlace) (key w : List ℕ) (o : Option RightSet) (others : Result RightSet RightsFault) → IfSome o HasRight → Reads AreRights (rights_from at key (with_word [] w o others))

@@ -1,22 +1,18 @@
 -- The keys of an object, one after another: the first unknown one in byte order is the least.
-use Rattle.std.proofs.Common.{◌||◌, ◌≡◌, ℕ, List, [], ◌∷◌, map, Option, Some, None, Bool, true, false, refl, ap, sym, ◌∙◌}
-use Rattle.std.proofs.Common.{Bor, if◌then◌else◌, nat_cmp, Ordering, Less, Equal, Greater, is_eq}
+use Rattle.std.proofs.Common.{◌≡◌, ℕ, List, [], ◌∷◌, map, Option, Some, None, Bool, true, false, refl, ap, sym, ◌∙◌}
+use Rattle.std.proofs.Common.{Bor, if◌then◌else◌, nat_cmp, Ordering, Less, Equal, Greater}
 use Rattle.std.proofs.lemmas.Cmp.{nat_list_cmp_total}
-use Rattle.std.proofs.lemmas.Map.Text.{is_eq-slice_cmp}
-use Rattle.std.proofs.lemmas.Slice.Eq.{bytes_eq-Decides}
 use Rattle.std.specs.Cmp.Lexicographic.{slice_cmp}
 use Rattle.std.specs.List.{list_any}
 use Rattle.std.specs.Ordering.{match_ordering, ordering_reverse}
 use Rattle.std.specs.Str.{bytes_eq}
 use Rattle.serde_json.specs.Data.{Data, Members, no_members, member, put}
+use Rattle.cm_facts.proofs.Lists.{list_any_map}
+use Rattle.cm_facts.proofs.Orders.{slice_cmp_equal}
 use Rattle.cm_plain.specs.JsonTree.{beside, view, members_view}
 use Rattle.cm_plain.proofs.TreeLemmas.{Member, seen}
 use Rattle.cm_read.specs.Fields.{unknown_in}
 use Rattle.cm_read.specs.FieldsInside.{map_now, lesser, least_with}
-
-list_any_map : {A B : Type 0} (f : A → B) (p : B → Bool) (xs : List A) → list_any p (map f xs) ≡ list_any (λ x. p (f x)) xs
-list_any_map f p [] = refl
-list_any_map f p (x ∷ xs) = ap (λ b. p (f x) || b) (list_any_map f p xs)
 
 -- ---- keys in byte order
 
@@ -32,9 +28,6 @@ Ascends (member l e ms) = Below l ms × Ascends ms
 
 turned : (k l : List ℕ) → slice_cmp nat_cmp k l ≡ Greater → slice_cmp nat_cmp l k ≡ Less
 turned k l g = nat_list_cmp_total.antisymm l k ∙ ap ordering_reverse g
-
-same_key : (k l : List ℕ) → slice_cmp nat_cmp k l ≡ Equal → k ≡ l
-same_key k l e = (bytes_eq-Decides k l).0 (sym (is_eq-slice_cmp k l) ∙ ap is_eq e)
 
 below_put_at : (o : Ordering) (l k m : List ℕ) (d e : Data) (ms : Members) → slice_cmp nat_cmp k m ≡ o
     → slice_cmp nat_cmp l k ≡ Less → slice_cmp nat_cmp l m ≡ Less
@@ -105,7 +98,7 @@ unknown_put_at known Less k l d e ms is below up more =
     put_first (list_any (λ w. bytes_eq w k) known) k (unknown_in known (member l e ms))
     (below_all known k (member l e ms) is (below, up))
 unknown_put_at known Equal k l d e ms is below up more =
-    let same : k ≡ l = same_key k l is in
+    let same : k ≡ l = slice_cmp_equal k l is in
     let level : slice_cmp nat_cmp l l ≡ Equal = ap (λ x. slice_cmp nat_cmp x l) (sym same) ∙ is in
     put_same (list_any (λ w. bytes_eq w l) known) l _ (unknown_in known ms) refl level
     ∙ ap (λ x. with_key (list_any (λ w. bytes_eq w x) known) (unknown_in known (member l e ms)) x) (sym same)
@@ -129,7 +122,7 @@ least_in known least (m ∷ more) = least_in known (least_with known least m.0.n
 one_more : (known : List (Bor (List ℕ))) (least : Option (List ℕ)) (k : List ℕ)
     → least_with known least k ≡ with_key (list_any (λ w. bytes_eq w k) (map_now known)) least k
 one_more known least k =
-    ap (λ b. with_key b least k) (sym (list_any_map (λ w. w.now) (λ w. bytes_eq w k) known))
+    ap (λ b. with_key b least k) (sym (list_any_map (λ w. bytes_eq w k) (λ w. w.now) known))
 
 least_beside : (known : List (Bor (List ℕ))) (ms : Members) (xs : List Member) → Ascends ms
     → least_in known (unknown_in (map_now known) ms) xs ≡ unknown_in (map_now known) (beside ms (map seen xs))

@@ -1,14 +1,14 @@
 -- What is read has a property: the steps that all readers have in common.
 use Rattle.std.proofs.Common.{◌≡◌, ℕ, suc, List, [], ◌∷◌, length, Bool, true, false, nat_lt, if◌then◌else◌, Option, Some, None, Ok, Err, refl, arith}
-use Rattle.std.specs.Prelude.{IfOk, IfSome, All, map, filter_map, ok_or}
+use Rattle.std.specs.Prelude.{IfOk, IfSome, All, ok_or}
 use Rattle.std.specs.List.{flat_map}
-use Rattle.std.specs.List.{cons_option}
 use Rattle.std.proofs.lemmas.List.Elements.{All-nil, All-cons, All-append}
 use Rattle.serde_json.specs.Data.{Data}
 use Rattle.cm_read.specs.declared.fault.ItemPlace.{ItemPlace}
 use Rattle.cm_read.specs.declared.fault.ReadFault.{ReadFault}
 use Rattle.cm_read.specs.Numbers.{not_with_many, unknown_word}
 use Rattle.cm_names.specs.Steps.{◌>>=◌}
+use Rattle.cm_facts.proofs.Lists.{All_cons_option}
 use Rattle.cm_read.specs.Reading.{ReadResult, bad}
 use Rattle.cm_read.specs.Fields.{or_default, if_there, unless_fault, each, text_at, listed_at}
 use Rattle.cm_read.specs.Items.{alone}
@@ -95,26 +95,6 @@ listed_reads meaning at key d h =
     next (any (text_at at key d)) (λ text _. meant (meaning text) (bad at unknown_word key) (h text))
 
 -- ---- rows
-
-taken_one : {B : Type 0} (Q : B → Type 0) (o : Option B) (ys : List B) → IfSome o Q → All Q ys → All Q (cons_option o ys)
-taken_one Q None ys h qs = qs
-taken_one Q (Some y) ys h qs = All-cons Q y ys h qs
-
--- the rows that f takes have what it takes over from them
-pub taken : {A B : Type 0} (P : A → Type 0) (Q : B → Type 0) (f : A → Option B) (xs : List A)
-    → ((x : A) → P x → IfSome (f x) Q) → All P xs → All Q (filter_map f xs)
-taken P Q f [] h ps = All-nil Q
-taken P Q f (x ∷ xs) h ps =
-    taken_one Q (f x) (filter_map f xs) (h x (ps 0 x (omega arith)))
-    (taken P Q f xs h (λ k d lt. ps (suc k) d (omega arith)))
-
-pub one_row : {A : Type 0} (P : A → Type 0) (x : A) → P x → All P (x ∷ [])
-one_row P x p = All-cons P x [] p (All-nil P)
-
-pub all_mapped : {A B : Type 0} (P : A → Type 0) (Q : B → Type 0) (f : A → B) (xs : List A) → ((x : A) → P x → Q (f x)) → All P xs → All Q (map f xs)
-all_mapped P Q f [] h ps = All-nil Q
-all_mapped P Q f (x ∷ xs) h ps =
-    All-cons Q (f x) (map f xs) (h x (ps 0 x (omega arith))) (all_mapped P Q f xs h (λ k d lt. ps (suc k) d (omega arith)))
 
 pub all_in_turn : {A B : Type 0} (P : A → Type 0) (Q : B → Type 0) (f : A → List B) (xs : List A) → ((x : A) → P x → All Q (f x)) → All P xs → All Q (flat_map f xs)
 all_in_turn P Q f [] h ps = All-nil Q

@@ -27,6 +27,7 @@ use Rattle.cm_names.specs.declared.dependency.Dependency.{Dependency}
 use Rattle.cm_names.specs.declared.availability.Availability.{Availability}
 use Rattle.cm_names.specs.declared.availability.Availability.TheVariants.{SameAsTarget}
 use Rattle.std.specs.Prelude.{◌≢◌}
+use Rattle.cm_facts.proofs.Lists.{All_one, All_map}
 use Rattle.cm_read.specs.declared.rows.Sort.{Sort}
 use Rattle.cm_read.specs.declared.rows.Sort.TheVariants as sort
 use Rattle.cm_read.specs.declared.rows.UseSource.{UseSource}
@@ -56,7 +57,7 @@ use Rattle.cm_read.specs.Items.{protocols_used_at, offered_at, storages_offered_
 use Rattle.cm_read.specs.Readable.{AreRights, IsSubDir, IsOriginRow, IsStorageSource, ForSomeOf}
 use Rattle.cm_read.specs.Readable.{MayHave, IsChildRow, IsCollection, IsCapability, IsUsage, IsGiveRow, IsOffer}
 use Rattle.cm_read.specs.Readable.{IsExpose, IsDebugUse, IsStorage, IsStorageUse, IsStorageOffer}
-use Rattle.cm_read.proofs.reading.ReadLemmas.{Reads, gives, any, exact, next, given, alone_reads, one_row, all_mapped}
+use Rattle.cm_read.proofs.reading.ReadLemmas.{Reads, gives, any, exact, next, given, alone_reads}
 use Rattle.cm_read.proofs.reading.ReadLemmas.{all_in_turn}
 use Rattle.cm_read.proofs.reading.FieldsRead.{name_in_reads, name_reads, url_reads, IsPath, path_in_reads, path_reads}
 use Rattle.cm_read.proofs.reading.FieldsRead.{subdir_in_reads, subdir_reads, names_reads, references_reads}
@@ -75,7 +76,7 @@ child_reads at d =
     next (url_reads at (codes "url") d) (λ url u.
     next (any (startup_at at d)) (λ eager _.
     next (environment_reads at d) (λ environment e.
-    gives (one_row IsChildRow (record { name = name; url = url; eager = eager; environment = environment })
+    gives (All_one IsChildRow (record { name = name; url = url; eager = eager; environment = environment })
     (record { name = n; url = u; environment = e }))))))))
 
 pub collection_reads : (at : ItemPlace) (d : Data) → Reads (All IsCollection) (collection_at at d)
@@ -87,7 +88,7 @@ collection_reads at d =
     next (any (durability_at at d)) (λ durability _.
     next (any (allowed_offers_at at d)) (λ dynamic_offers _.
     next (environment_reads at d) (λ environment e.
-    gives (one_row IsCollection
+    gives (All_one IsCollection
     (record { name = name; durability = durability; dynamic_offers = dynamic_offers; environment = environment })
     (record { name = n; environment = e }))))))))
 
@@ -143,7 +144,7 @@ unfolding protocol_capability_at
 protocol_capability_reads at d =
     next (item_names_reads kind.Protocol at d) (λ names ns.
     next (protocol_path_reads at names d) (λ path p.
-    gives (all_mapped IsName IsCapabilityRow (protocol_capability_row path) names
+    gives (All_map IsName IsCapabilityRow (protocol_capability_row path) names
     (λ name n. protocol_is_row path name p n) ns)))
 
 directory_capability_reads : (at : ItemPlace) (d : Data) → Reads (All IsCapabilityRow) (directory_capability_at at d)
@@ -152,7 +153,7 @@ directory_capability_reads at d =
     next (directory_name_reads at d) (λ name n.
     next (path_reads at (codes "path") d) (λ path p.
     next (rights_reads at (codes "rights") d) (λ rights r.
-    gives (one_row IsCapabilityRow
+    gives (All_one IsCapabilityRow
     (capability_row.Capability (record { kind = kind.Directory; name = name; path = path; rights = Some rights }))
     (record { name = n; path = p; rights = r }, tt)))))
 
@@ -164,7 +165,7 @@ storage_reads at d =
     next (backing_reads at d) (λ backing b.
     next (subdir_reads at (codes "subdir") d) (λ subdir s.
     next (any (storage_id_at at d)) (λ by_moniker _.
-    gives (one_row IsCapabilityRow
+    gives (All_one IsCapabilityRow
     (capability_row.Storage (record { name = name; from = from; backing = backing; subdir = subdir; by_moniker = by_moniker }))
     (tt, record { name = n; from = f; backing = b; subdir = s })))))))
 
@@ -204,7 +205,7 @@ protocol_use_reads at d =
     next (protocol_path_reads at names d) (λ path p.
     next (any (dependency_at at d)) (λ dependency _.
     next (availability_reads at d) (λ availability a.
-    gives (all_mapped IsName IsUseRow (protocol_use_row from path dependency availability) names
+    gives (All_map IsName IsUseRow (protocol_use_row from path dependency availability) names
     (λ name n. protocol_is_use from path dependency availability name f p a n) ns))))))
 
 directory_use_reads : (at : ItemPlace) (d : Data) → Reads (All IsUseRow) (directory_use_at at d)
@@ -217,7 +218,7 @@ directory_use_reads at d =
     next (subdir_reads at (codes "subdir") d) (λ subdir s.
     next (any (dependency_at at d)) (λ dependency _.
     next (availability_reads at d) (λ availability a.
-    gives (one_row IsUseRow (use_row.Usage (record { kind = kind.Directory; name = name; from = from; path = path; rights = Some rights; subdir = subdir; dependency = dependency; availability = availability }))
+    gives (All_one IsUseRow (use_row.Usage (record { kind = kind.Directory; name = name; from = from; path = path; rights = Some rights; subdir = subdir; dependency = dependency; availability = availability }))
     (record { name = n; from = f; path = p; rights = r; subdir = s; availability = a }, (tt, tt))))))))))
 
 storage_use_reads : (at : ItemPlace) (d : Data) → Reads (All IsUseRow) (storage_use_at at d)
@@ -227,7 +228,7 @@ storage_use_reads at d =
     next (any (storage_use_from_at at d)) (λ from _.
     next (path_reads at (codes "path") d) (λ path p.
     next (availability_reads at d) (λ availability _.
-    gives (one_row IsUseRow (use_row.Storage (record { name = name; path = path })) (tt, (tt, record { name = n; path = p })))))))
+    gives (All_one IsUseRow (use_row.Storage (record { name = name; path = path })) (tt, (tt, record { name = n; path = p })))))))
 
 use_of_sort_reads : (s : Sort) (at : ItemPlace) (d : Data) → Reads (All IsUseRow) (use_of_sort s at d)
 use_of_sort_reads (sort.Routed kind.Protocol) at d = protocol_use_reads at d
@@ -337,8 +338,8 @@ offers_are : (targets : List (List ℕ)) (t : Terms) (names : List (List ℕ)) �
     → All IsName names → All IsOfferRow (flat_map (offer_rows targets) (map (give_row t) names))
 offers_are targets t names ts h ns =
     all_in_turn (IsGiveRow true) IsOfferRow (offer_rows targets) (map (give_row t) names)
-    (λ give g. all_mapped IsName IsOfferRow (λ to. offered.Offer (offer_row give to)) targets (λ to o. (record { to = o; give = g }, tt)) ts)
-    (all_mapped IsName (IsGiveRow true) (give_row t) names (λ name n. row_is_give true t name h n) ns)
+    (λ give g. All_map IsName IsOfferRow (λ to. offered.Offer (offer_row give to)) targets (λ to o. (record { to = o; give = g }, tt)) ts)
+    (All_map IsName (IsGiveRow true) (give_row t) names (λ name n. row_is_give true t name h n) ns)
 
 unknown_in_offer : (k : Kind) (key : List ℕ)
     → list_any (λ w. bytes_eq w key) (offer_fields (sort.Routed kind.Protocol)) ≡ false → k ≡ kind.Protocol
@@ -367,7 +368,7 @@ storage_offers_are : (from : Origin) (target : Option (List ℕ)) (targets names
     → All IsOfferRow (flat_map (storage_offer_rows from target targets) names)
 storage_offers_are from target targets names f t ts ns =
     all_in_turn IsName IsOfferRow (storage_offer_rows from target targets) names
-    (λ name n. all_mapped IsName IsOfferRow (λ to. offered.Storage (storage_offer from target name to)) targets
+    (λ name n. All_map IsName IsOfferRow (λ to. offered.Storage (storage_offer from target name to)) targets
     (λ to o. (tt, record { to = o; source_name = n; from = f; target_name = target_is_name target name t n })) ts) ns
 
 storage_offer_reads : (at : ItemPlace) (d : Data) → Reads (All IsOfferRow) (storage_offer_at at d)
@@ -401,7 +402,7 @@ offer_reads children at d =
 
 exposes_are : (t : Terms) (names : List (List ℕ)) → AreTerms false t → t.dependency ≡ Strong → All IsName names → All IsExpose (map (give_row t) names)
 exposes_are t names h strong ns =
-    all_mapped IsName IsExpose (give_row t) names (λ name n. record { give = row_is_give false t name h n; dependency = strong }) ns
+    All_map IsName IsExpose (give_row t) names (λ name n. record { give = row_is_give false t name h n; dependency = strong }) ns
 
 unknown_in_expose : (k : Kind) (key : List ℕ) → list_any (λ w. bytes_eq w key) (expose_fields kind.Protocol) ≡ false → k ≡ kind.Protocol → list_any (λ w. bytes_eq w key) (expose_fields k) ≡ false
 unknown_in_expose k key out e = ap (λ p. list_any (λ w. bytes_eq w key) (expose_fields p)) e ∙ out

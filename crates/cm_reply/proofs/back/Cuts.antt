@@ -3,12 +3,13 @@ use Rattle.std.proofs.Common.{◌≡◌, ℕ, ◌+◌, ◌<◌, ◌^◌, List, [
 use Rattle.std.specs.List.{slice_split}
 use Rattle.std.proofs.lemmas.List.Splits.{slice_split_at}
 use Rattle.std.proofs.Math.Seq.{get_or-append_seam}
+use Rattle.cm_facts.proofs.Numbers.{eq_self}
 use Rattle.cm_command.specs.Numbers.{IsNumberText, value_behind}
 use Rattle.cm_command.specs.NumbersInside.{IsU64Text}
 use Rattle.cm_command.specs.Counts.{IsWordFault, IsSureFault}
 use Rattle.cm_command.specs.declared.tokens.WordFault.{WordFault}
 use Rattle.cm_command.specs.declared.tokens.WordFault.TheVariants as word_fault
-use Rattle.cm_command.proofs.bytes.Pieces.{Lacks, same}
+use Rattle.cm_command.proofs.bytes.Pieces.{Lacks}
 use Rattle.cm_command.proofs.bytes.Cuts.{IsCut, piece_alone, piece_and_rest}
 use Rattle.cm_command.proofs.scripts.LaneLemmas.{decimal_lacks}
 use Rattle.cm_command.proofs.written.WritesLine.{decimal_is}
@@ -40,8 +41,8 @@ word_faults P t word_fault.Memory g is h e = e
 -- where a text is cut at the first separator
 pub cut_once : (k : ℕ) (a b x y : List ℕ) → Lacks k a → Lacks k b → a ++ k ∷ x ≡ b ++ k ∷ y → (a ≡ b) × (x ≡ y)
 cut_once k a b x y la lb e =
-    let l : slice_split (λ c. c == k) (a ++ k ∷ x) ≡ a ∷ slice_split (λ c. c == k) x = slice_split_at (λ c. c == k) a k x la (same k) in
-    let r : slice_split (λ c. c == k) (b ++ k ∷ y) ≡ b ∷ slice_split (λ c. c == k) y = slice_split_at (λ c. c == k) b k y lb (same k) in
+    let l : slice_split (λ c. c == k) (a ++ k ∷ x) ≡ a ∷ slice_split (λ c. c == k) x = slice_split_at (λ c. c == k) a k x la (eq_self k) in
+    let r : slice_split (λ c. c == k) (b ++ k ∷ y) ≡ b ∷ slice_split (λ c. c == k) y = slice_split_at (λ c. c == k) b k y lb (eq_self k) in
     let both : a ∷ slice_split (λ c. c == k) x ≡ b ∷ slice_split (λ c. c == k) y = sym l ∙ ap (slice_split (λ c. c == k)) e ∙ r in
     let first : a ≡ b = cc both in
     (first, cut_same k a x y (e ∙ ap (λ z. z ++ k ∷ y) (sym first)))
@@ -55,7 +56,7 @@ pub not_cut : (k : ℕ) (t b x : List ℕ) → Lacks k t → t ≡ b ++ k ∷ x 
 not_cut k t b x clean e =
     let lt : length b < length t = omega (arith, ap length e, length-append b (k ∷ x)) in
     let at : get_or t (length b) 0 ≡ k = ap (λ z. get_or z (length b) 0) e ∙ get_or-append_seam b k x 0 in
-    true≢false (sym (ap (λ c. c == k) at ∙ same k) ∙ clean (length b) 0 lt)
+    true≢false (sym (ap (λ c. c == k) at ∙ eq_self k) ∙ clean (length b) 0 lt)
 
 -- the digits of a number have no space
 pub digits_lack : (n : ℕ) → n < 2 ^ 64 → Lacks 32 (decimal n)

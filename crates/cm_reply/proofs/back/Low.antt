@@ -17,6 +17,7 @@ use Rattle.cm_names.specs.Moniker.{IsChildName}
 use Rattle.cm_names.specs.Rights.{word_of}
 use Rattle.cm_names.specs.Urls.{is_url_byte, is_url_text}
 use Rattle.cm_names.proofs.texts.NameLemmas.{begins_continues}
+use Rattle.cm_facts.proofs.Rights.{url_byte_low, part_byte_low}
 
 abbrev pub Low : List ℕ → Type 0
 Low t = All (λ b. b < 128) t
@@ -58,15 +59,9 @@ child_low c h = collected c.coll c.name h.0 h.1
 
 -- ---- URLs, paths and subdirectories
 
-url_byte_low : (b : ℕ) → is_url_byte b ≡ true → b < 128
-url_byte_low b h = grind (arith, rules)
-
 pub url_low : (t : List ℕ) → IsTrue (is_url_text t) → Low t
 url_low t h =
     low_if is_url_byte url_byte_low t (and_parts (not (length t == 0) && nat_le (length t) 4096) (list_all is_url_byte t) h).1
-
-part_byte_low : (b : ℕ) → is_part_byte b ≡ true → b < 128
-part_byte_low b h = grind (arith, rules)
 
 abbrev AllLow : List (List ℕ) → Type 0
 AllLow [] = Unit {0}

@@ -2,6 +2,7 @@
 use Rattle.std.proofs.Common.{◌≡◌, ℕ, ◌+◌, ◌<◌, ◌≤◌, Bool, true, false, List, All, length, Some, sym, ap, ◌∙◌, subst, arith}
 use Rattle.std.specs.List.{slice_get}
 use Rattle.std.proofs.lemmas.Option.{slice_get_within}
+use Rattle.cm_facts.proofs.Lists.{slice_get_some, All_slice_get}
 use Rattle.cm_turn.specs.History.{StartsWith}
 use Rattle.cm_turn.specs.Passes.{HasCaller}
 use Rattle.cm_session.specs.declared.doorway.Accepted.{Accepted}
@@ -13,7 +14,6 @@ use Rattle.cm_session.specs.declared.served.Cause.{Cause}
 use Rattle.cm_session.specs.Closing.{ClosesDoor, CountsLinks, cause_of, links_from}
 use Rattle.cm_session.specs.Doorway.{DoorPass, IsCounted, failures_of, links_of, sessions_in, sessions_of}
 use Rattle.cm_session.specs.PoolParts.{Links}
-use Rattle.cm_session.proofs.work.Places.{at_place, there_at}
 use Rattle.cm_session.proofs.links.Spreading.{by_worker, count_from, gathered, spread}
 
 -- a pass that the closed state bears out
@@ -32,8 +32,8 @@ module _ {L : Type 0} (passes : List DoorPass) (links : List (Links L)) (room : 
   -- the links of one worker are as many as its entries with a link
   each_as_many : (k : ℕ) (r : Links L) → slice_get links k ≡ Some r → length r.items ≡ links_of (by_worker (0 + k) entries)
   each_as_many k r there =
-      let p = there_at passes k (grind (arith, counts.count, counts.long, slice_get_within links k r there)) in
-      let here : KnownBy o entries p.0 = at_place (KnownBy o entries) passes k p.0 known p.1 in
+      let p = slice_get_some passes k (grind (arith, counts.count, counts.long, slice_get_within links k r there)) in
+      let here : KnownBy o entries p.0 = All_slice_get (KnownBy o entries) passes k p.0 known p.1 in
       let caller : p.0.caller ≡ 0 + k = counts.callers k p.0 p.1 ∙ none_more k in
       sym (counts.each k p.0 r p.1 there) ∙ ap links_of (sym here.2) ∙ ap (λ (n : ℕ). links_of (by_worker n entries)) caller where
         none_more : (k : ℕ) → k ≡ 0 + k
@@ -46,10 +46,10 @@ module _ {L : Type 0} (passes : List DoorPass) (links : List (Links L)) (room : 
   -- and there is room for them
   pub all_fit : links_of entries ≤ o.sessions → length (links_from 0 links) ≤ room
   all_fit few =
-      let p = there_at passes 0 (grind (arith, counts.count)) in
-      let here : KnownBy o entries p.0 = at_place (KnownBy o entries) passes 0 p.0 known p.1 in
+      let p = slice_get_some passes 0 (grind (arith, counts.count)) in
+      let here : KnownBy o entries p.0 = All_slice_get (KnownBy o entries) passes 0 p.0 known p.1 in
       let sessions : sessions_of p.0 ≡ o.sessions = ap sessions_in here.0 in
-      let fits : sessions_of p.0 ≤ room = at_place (λ (p : DoorPass). sessions_of p ≤ room) passes 0 p.0 counts.room p.1 in
+      let fits : sessions_of p.0 ≤ room = All_slice_get (λ (p : DoorPass). sessions_of p ≤ room) passes 0 p.0 counts.room p.1 in
       grind (arith, few, sessions, fits, all_counted)
 
   -- all that the closed door says

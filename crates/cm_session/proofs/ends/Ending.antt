@@ -1,14 +1,15 @@
 -- From passes, gates and links to workers, and back.
-use Rattle.std.proofs.Common.{◌≡◌, ◌⊎◌, ℕ, zero, suc, ◌<◌, ◌≤◌, List, [], ◌∷◌, ◌++◌, All, Any, map, take, drop, length, get_or, Bool, true, false, Option, Some, inl, inr, refl, sym, ap, ◌∙◌, subst, append-nil, arith}
+use Rattle.std.proofs.Common.{◌≡◌, ◌⊎◌, ℕ, zero, suc, ◌<◌, ◌≤◌, List, [], ◌∷◌, ◌++◌, All, Any, map, take, drop, length, get_or, Bool, true, false, Option, Some, inl, inr, refl, sym, ap, ◌∙◌, subst, arith}
 use mathlib.Core.Logic.{dite}
 use native.Mathlib.Decide.{dec_lt}
 use Rattle.std.specs.List.{slice_get}
-use Rattle.std.proofs.lemmas.List.{length-append, length-map, take_all, drop_all}
+use Rattle.std.proofs.lemmas.List.{length-append, length-map}
 use Rattle.std.proofs.lemmas.Option.{slice_get-get_or, slice_get_within, get_or_from_slice_get, same_Some}
 use Rattle.std.proofs.Math.ListN.{get_or-append}
 use Rattle.std.proofs.Math.Seq.{get_or-append_seam}
 use Rattle.cm_gate.specs.declared.asked.GateCall.{GateCall}
 use Rattle.std.proofs.lemmas.List.FromFn.{length-range_with_len}
+use Rattle.cm_facts.proofs.Lists.{length_by_map, slice_get_some, take_over, All_slice_get}
 use Rattle.cm_manager.specs.Contract.{RealmPass}
 use Rattle.cm_manager.specs.Kept.{AreSixteen}
 use Rattle.cm_manager.specs.Gated.{gates_view}
@@ -24,12 +25,7 @@ use Rattle.cm_session.specs.Links.{LinkView}
 use Rattle.cm_session.specs.PoolParts.{AreWorkerParts, HasPasses, PoolPartsHaveRoom, HasRooms, Links}
 use Rattle.cm_session.specs.Serving.{AreWell, EndsLost, StopsAtLoss, ServedLink}
 use Rattle.cm_session.proofs.work.Making.{Made}
-use Rattle.cm_session.proofs.work.Places.{all_places, any_place, as_long, at_map, at_place, field_at, item_at, there_at}
-
--- a slice that took the place of a whole vector
-pub whole_slice : {A : Type 0} (xs ys : List A) (n : ℕ) → n ≡ length xs → length ys ≡ length xs → take n (ys ++ drop (length ys) xs) ≡ ys
-whole_slice xs ys n is_n long =
-    ap (λ (l : List _). take n (ys ++ l)) (drop_all (length ys) xs (omega (arith, long))) ∙ ap (take n) (append-nil ys) ∙ take_all n ys (omega (arith, is_n, long))
+use Rattle.cm_session.proofs.work.Places.{all_places, any_place, at_map, field_at, item_at}
 
 -- ---- the passes of a new door
 
@@ -119,21 +115,21 @@ module _ {G L : Type 0} (log_of : G → Option (List GateCall)) (faults_of : G �
   pub places_of : (passes : List RealmPass) (at_door : List DoorPass) (gates : List G) (links : List (Links L)) (xs ys : List (Worker G L)) (parts : PoolParts G L) (visits : List (List ServedLink)) → Made passes at_door gates links xs → length ys ≡ length xs → Visited xs ys visits → AreWorkerParts ys parts → Places passes at_door gates parts visits
   places_of passes at_door gates links xs ys parts visits made long visited are = record {
     count = visited.count ∙ as_many;
-    passes_long = as_long Some (λ (w : Worker G L). w.pass) parts.passes.items ys are.passes ∙ long ∙ as_many;
-    doors_long = as_long Some (λ (w : Worker G L). w.at_door) parts.at_door.items ys are.at_door ∙ long ∙ as_many;
+    passes_long = length_by_map Some (λ (w : Worker G L). w.pass) parts.passes.items ys are.passes ∙ long ∙ as_many;
+    doors_long = length_by_map Some (λ (w : Worker G L). w.at_door) parts.at_door.items ys are.at_door ∙ long ∙ as_many;
     gates_long = ap (λ (l : List G). length l) are.gates ∙ length-map ys (λ (w : Worker G L). w.gates) ∙ long ∙ as_many;
     links_long = ap (λ (l : List (Links L)). length l) are.links ∙ length-map ys (λ (w : Worker G L). w.links) ∙ long ∙ as_many;
     each = place;
     lost = λ yes. lost_at (are.lost yes);
   } where
     as_many : length xs ≡ length passes
-    as_many = as_long (λ (w : Worker G L). w.pass) Some xs passes made.passes_are
+    as_many = length_by_map (λ (w : Worker G L). w.pass) Some xs passes made.passes_are
 
     place : (k : ℕ) (vs : List ServedLink) → slice_get visits k ≡ Some vs → PlaceAt passes at_door gates parts k vs
     place k vs there =
         let within : k < length visits = slice_get_within visits k vs there in
-        let x = there_at xs k (grind (arith, within, visited.count)) in
-        let y = there_at ys k (grind (arith, within, visited.count, long)) in
+        let x = slice_get_some xs k (grind (arith, within, visited.count)) in
+        let y = slice_get_some ys k (grind (arith, within, visited.count, long)) in
         let worked = visited.each k x.0 y.0 vs x.1 y.1 there in
         record {
           p = worked.p;
@@ -153,15 +149,15 @@ module _ {G L : Type 0} (log_of : G → Option (List GateCall)) (faults_of : G �
           served = worked.served;
           idle = worked.idle;
           stops = either_way y.0.lost worked.well worked.lost;
-          well = λ no. worked.well (at_place (λ (w : Worker G L). w.lost ≡ false) ys k y.0 (are.well no) y.1);
-          over = λ no. worked.over (at_place (λ (w : Worker G L). w.lost ≡ false) ys k y.0 (are.well no) y.1);
+          well = λ no. worked.well (All_slice_get (λ (w : Worker G L). w.lost ≡ false) ys k y.0 (are.well no) y.1);
+          over = λ no. worked.over (All_slice_get (λ (w : Worker G L). w.lost ≡ false) ys k y.0 (are.well no) y.1);
         }
 
     lost_at : Any (λ (w : Worker G L). w.lost ≡ true) ys → Any EndsLost visits
     lost_at any =
         let y_is : slice_get ys any.0 ≡ Some any.1 = slice_get-get_or ys any.0 any.1 any.2 ∙ ap Some any.3 in
-        let x = there_at xs any.0 (grind (arith, any.2, long)) in
-        let v = there_at visits any.0 (grind (arith, any.2, long, visited.count)) in
+        let x = slice_get_some xs any.0 (grind (arith, any.2, long)) in
+        let v = slice_get_some visits any.0 (grind (arith, any.2, long, visited.count)) in
         any_place EndsLost visits any.0 v.0 v.1 ((visited.each any.0 x.0 any.1 v.0 x.1 y_is v.1).lost any.4)
 
 -- ---- before the work
@@ -176,10 +172,10 @@ module _ {G L : Type 0} where
     each : (k : ℕ) (x : Worker G L) → slice_get xs k ≡ Some x → IsReadyWorker realm door workers x
     each k x there =
         let within : k < length xs = slice_get_within xs k x there in
-        let long : length xs ≡ length passes = as_long (λ (w : Worker G L). w.pass) Some xs passes made.passes_are in
-        let doors_long : length xs ≡ length at_door = as_long (λ (w : Worker G L). w.at_door) Some xs at_door made.at_door_are in
-        let p = there_at passes k (grind (arith, within, long)) in
-        let d = there_at at_door k (grind (arith, within, doors_long)) in
+        let long : length xs ≡ length passes = length_by_map (λ (w : Worker G L). w.pass) Some xs passes made.passes_are in
+        let doors_long : length xs ≡ length at_door = length_by_map (λ (w : Worker G L). w.at_door) Some xs at_door made.at_door_are in
+        let p = slice_get_some passes k (grind (arith, within, long)) in
+        let d = slice_get_some at_door k (grind (arith, within, doors_long)) in
         let d_new : d.0 ≡ new_pass door.lock o k = new_at door o 16 k d.0 (subst (λ (l : List DoorPass). slice_get l k ≡ Some d.0) new d.1) in
         let room_at = at_map (λ (w : Worker G L). w.links) xs links k x made.links_are there in
         let caller : d.0.caller ≡ k = ap (λ (p : DoorPass). p.caller) d_new in
@@ -187,14 +183,14 @@ module _ {G L : Type 0} where
         record {
           pass = p.0;
           there = field_at (λ (w : Worker G L). w.pass) xs passes k x p.0 made.passes_are there p.1;
-          of_realm = at_place (λ (p : RealmPass). p.lock ≡ realm.lock) passes k p.0 are.lock p.1;
+          of_realm = All_slice_get (λ (p : RealmPass). p.lock ≡ realm.lock) passes k p.0 are.lock p.1;
           at_door = d.0;
           there_too = field_at (λ (w : Worker G L). w.at_door) xs at_door k x d.0 made.at_door_are there d.1;
           of_door = ap (λ (p : DoorPass). p.lock) d_new;
           new = ap (λ (p : DoorPass). p.mine) d_new;
-          none = at_place (λ (r : Links L). r.items ≡ []) links k x.links rooms.none room_at;
+          none = All_slice_get (λ (r : Links L). r.items ≡ []) links k x.links rooms.none room_at;
           room = λ first. subst (λ (n : ℕ). n ≤ Rattle.std.specs.Prelude.vec_capacity x.links) (sym sessions) (rooms.room k x.links (subst (λ (n : ℕ). n < workers) caller first) room_at);
-          well = at_place (λ (w : Worker G L). w.lost ≡ false) xs k x well there;
+          well = All_slice_get (λ (w : Worker G L). w.lost ≡ false) xs k x well there;
         }
 
 module _ {G L : Type 0} (log_of : G → Option (List GateCall)) (faults_of : G → ℕ) (view : L → LinkView) (manifests : Manifests) (workers : ℕ) where
@@ -207,7 +203,7 @@ module _ {G L : Type 0} (log_of : G → Option (List GateCall)) (faults_of : G �
   -- they are as many as there is room for
   pub room_left : (realm : LockView) (passes : List RealmPass) (xs ys : List (Worker G L)) (parts : PoolParts G L) → AreSixteen realm passes → map (λ (w : Worker G L). w.pass) xs ≡ map Some passes → PoolWorked log_of faults_of view manifests workers xs ys → PoolPartsHaveRoom 16 parts → PoolPartsHaveRoom (length ys) parts
   room_left realm passes xs ys parts are made did room =
-      subst (λ (n : ℕ). PoolPartsHaveRoom n parts) (sym (did.long ∙ as_long (λ (w : Worker G L). w.pass) Some xs passes made ∙ sixteen_long realm passes are)) room
+      subst (λ (n : ℕ). PoolPartsHaveRoom n parts) (sym (did.long ∙ length_by_map (λ (w : Worker G L). w.pass) Some xs passes made ∙ sixteen_long realm passes are)) room
 
   -- the workers of a slice that took the place of a whole vector
   pub pool_worked : (xs s ys : List (Worker G L)) (n : ℕ) → s ≡ xs → n ≡ length xs → length ys ≡ length s → ((k : ℕ) (d : Worker G L) → k < length s → DidWork log_of faults_of view manifests workers (get_or s k d) (get_or ys k d)) → PoolWorked log_of faults_of view manifests workers xs (take n (ys ++ drop (length ys) xs))
@@ -215,4 +211,4 @@ module _ {G L : Type 0} (log_of : G → Option (List GateCall)) (faults_of : G �
       let long : length ys ≡ length xs = many ∙ ap (λ (l : List (Worker G L)). length l) s_is in
       let each : (k : ℕ) (d : Worker G L) → k < length xs → DidWork log_of faults_of view manifests workers (get_or xs k d) (get_or ys k d) = λ k d lt.
       subst (λ (l : List (Worker G L)). DidWork log_of faults_of view manifests workers (get_or l k d) (get_or ys k d)) s_is (did k d (subst (λ (l : List (Worker G L)). k < length l) (sym s_is) lt)) in
-      subst (λ (l : List (Worker G L)). PoolWorked log_of faults_of view manifests workers xs l) (sym (whole_slice xs ys n n_is long)) (record { long = long; each = each })
+      subst (λ (l : List (Worker G L)). PoolWorked log_of faults_of view manifests workers xs l) (sym (take_over xs ys n n_is long)) (record { long = long; each = each })

@@ -4,6 +4,7 @@ use Rattle.std.specs.List.{slice_get}
 use Rattle.std.proofs.lemmas.List.{length-map, map-append}
 use Rattle.std.proofs.lemmas.Option.{slice_get_within, same_Some}
 use mathlib.Core.List.{map-map}
+use Rattle.cm_facts.proofs.Lists.{slice_get_some, All_slice_get}
 use Rattle.cm_gate.specs.declared.asked.GateCall.{GateCall}
 use Rattle.cm_io.specs.Doors.{DoorPlace}
 use Rattle.cm_io.specs.Outside.{Rose}
@@ -30,7 +31,7 @@ use Rattle.cm_session.specs.Serving.{AreWell, IsOfLink, ServesVisits, ServesAll,
 use Rattle.cm_session.specs.Session.{KeepsOrNot}
 use Rattle.cm_session.proofs.links.Accepts.{over_later}
 use Rattle.cm_session.proofs.ends.Ending.{PlaceAt, Places, new_at}
-use Rattle.cm_session.proofs.work.Places.{all_places, at_place, map_same, there_at}
+use Rattle.cm_session.proofs.work.Places.{all_places, map_same}
 use Rattle.cm_session.proofs.links.Visits.{serves_keep}
 use Rattle.cm_session.proofs.spoken.Kept.{caller_kept, keeps_kept, lock_kept}
 
@@ -83,7 +84,7 @@ module _ {G L : Type 0} (log_of : G → Option (List GateCall)) (faults_of : G �
   door_at : (k : ℕ) (e : DoorPass) → slice_get parts.at_door.items k ≡ Some e → DoorAt k e
   door_at k e there =
       let within : k < length parts.at_door.items = slice_get_within parts.at_door.items k e there in
-      let v = there_at visits k (grind (arith, within, pl.doors_long, pl.count)) in
+      let v = slice_get_some visits k (grind (arith, within, pl.doors_long, pl.count)) in
       let place = pl.each k v.0 v.1 in
       let is : place.e ≡ e = same_Some place.e e (sym place.e_is ∙ there) in
       let first : place.d ≡ new_pass door.lock o k = new_at door o 16 k place.d (subst (λ (l : List DoorPass). slice_get l k ≡ Some place.d) new place.d_is) in
@@ -103,7 +104,7 @@ module _ {G L : Type 0} (log_of : G → Option (List GateCall)) (faults_of : G �
   all_at_door many = (
     all_places (λ (p : DoorPass). p.lock ≡ door.lock) parts.at_door.items (λ k e there. (door_at k e there).lock),
     pl.doors_long ∙ sixteen ∙ sym many,
-    (λ c lt. (let e = there_at parts.at_door.items c (grind (arith, lt, many, pl.doors_long, sixteen)) in (c, e.0, e.1, (door_at c e.0 e.1).caller))),
+    (λ c lt. (let e = slice_get_some parts.at_door.items c (grind (arith, lt, many, pl.doors_long, sixteen)) in (c, e.0, e.1, (door_at c e.0 e.1).caller))),
   )
 
   -- each worker's links are as many as its entries with a link
@@ -126,10 +127,10 @@ module _ {G L : Type 0} (log_of : G → Option (List GateCall)) (faults_of : G �
 
   module _ (first : DoorCounts) (opened : o.counts ≡ first) (some_worker : 0 < workers) (now : DoorCounts) (place_now : DoorPlace) (links : ℕ) (why : Cause) (is : ClosesDoor parts.at_door.items now place_now links parts.lost why) where
     zero_at : (e : DoorPass) × (slice_get parts.at_door.items 0 ≡ Some e)
-    zero_at = there_at parts.at_door.items 0 (grind (arith, pl.doors_long, sixteen))
+    zero_at = slice_get_some parts.at_door.items 0 (grind (arith, pl.doors_long, sixteen))
 
     opening_is : is.opening ≡ o
-    opening_is = same_Some is.opening o (sym (at_place (λ (p : DoorPass). p.frame ≡ Some is.opening) parts.at_door.items 0 zero_at.0 is.opened zero_at.1) ∙ (door_at 0 zero_at.0 zero_at.1).frame)
+    opening_is = same_Some is.opening o (sym (All_slice_get (λ (p : DoorPass). p.frame ≡ Some is.opening) parts.at_door.items 0 zero_at.0 is.opened zero_at.1) ∙ (door_at 0 zero_at.0 zero_at.1).frame)
 
     pub counts_first : is.opening.counts ≡ first
     counts_first = ap (λ (x : Opening). x.counts) opening_is ∙ opened
@@ -154,7 +155,7 @@ module _ {G L : Type 0} (log_of : G → Option (List GateCall)) (faults_of : G �
         let caller : at.place.d.caller ≡ 0 = ap (λ (p : DoorPass). p.caller) at.first in
         let over : IsDoorDone (sessions_of at.place.e) at.place.e.seen = at.place.over well (subst (λ (n : ℕ). n < workers) (sym caller) some_worker) in
         let sessions : sessions_of at.place.e ≡ o.sessions = ap (λ (p : DoorPass). sessions_of p) at.is ∙ ap sessions_in at.frame in
-        let seen = at_place (λ (p : DoorPass). Rattle.cm_turn.specs.History.StartsWith is.entries p.seen) parts.at_door.items 0 zero_at.0 is.seen zero_at.1 in
+        let seen = All_slice_get (λ (p : DoorPass). Rattle.cm_turn.specs.History.StartsWith is.entries p.seen) parts.at_door.items 0 zero_at.0 is.seen zero_at.1 in
         let found : IsDoorDone o.sessions zero_at.0.seen = subst (λ (p : DoorPass). IsDoorDone o.sessions p.seen) at.is (subst (λ (n : ℕ). IsDoorDone n at.place.e.seen) sessions over) in
         subst (λ l. IsDoorDone o.sessions l) (sym seen.1) (over_later o.sessions zero_at.0.seen seen.0 found)
 
@@ -218,7 +219,7 @@ module _ {G L : Type 0} (log_of : G → Option (List GateCall)) (faults_of : G �
       back_at : (k : ℕ) (q : RealmPass) → slice_get back.passes k ≡ Some q → BackAt k q
       back_at k q there =
           let q_there : slice_get parts.passes.items k ≡ Some q = subst (λ (l : List RealmPass). slice_get l k ≡ Some q) passes_are there in
-          let v = there_at visits k (grind (arith, slice_get_within parts.passes.items k q q_there, pl.passes_long, pl.count)) in
+          let v = slice_get_some visits k (grind (arith, slice_get_within parts.passes.items k q q_there, pl.passes_long, pl.count)) in
           let place = pl.each k v.0 v.1 in
           record {
             p = place.p;
@@ -233,7 +234,7 @@ module _ {G L : Type 0} (log_of : G → Option (List GateCall)) (faults_of : G �
 
       pub sixteen_back : (realm : LockView) → AreSixteen realm passes → AreSixteen realm back.passes
       sixteen_back realm are = record {
-        lock = all_places (λ (p : RealmPass). p.lock ≡ realm.lock) back.passes (λ k q there. (let at = back_at k q there in lock_kept manifests at.p q at.g at.h at.keeps ∙ at_place (λ (p : RealmPass). p.lock ≡ realm.lock) passes k at.p are.lock at.there));
+        lock = all_places (λ (p : RealmPass). p.lock ≡ realm.lock) back.passes (λ k q there. (let at = back_at k q there in lock_kept manifests at.p q at.g at.h at.keeps ∙ All_slice_get (λ (p : RealmPass). p.lock ≡ realm.lock) passes k at.p are.lock at.there));
         callers = map_same (λ (p : RealmPass). p.caller) passes back.passes back_long (λ k p q p_there q_there. (let at = back_at k q q_there in caller_kept manifests at.p q at.g at.h at.keeps ∙ ap (λ (p : RealmPass). p.caller) (same_Some at.p p (sym at.there ∙ p_there)))) ∙ are.callers;
       }
 
@@ -248,12 +249,12 @@ module _ {G L : Type 0} (log_of : G → Option (List GateCall)) (faults_of : G �
       } where
         each : (k : ℕ) (p q : RealmPass) (g h : G) → slice_get passes k ≡ Some p → slice_get back.passes k ≡ Some q → slice_get gates k ≡ Some g → slice_get back.gates k ≡ Some h → KeepsPass manifests p q (gates_view log_of faults_of g) (gates_view log_of faults_of h)
         each k p q g h p_there q_there g_there h_there =
-            let v = there_at visits k (grind (arith, slice_get_within passes k p p_there, pl.count)) in
-            keeps_kept manifests p q (gates_view log_of faults_of g) (gates_view log_of faults_of h) (at_place IsOwnPass passes k p own p_there)
+            let v = slice_get_some visits k (grind (arith, slice_get_within passes k p p_there, pl.count)) in
+            keeps_kept manifests p q (gates_view log_of faults_of g) (gates_view log_of faults_of h) (All_slice_get IsOwnPass passes k p own p_there)
             (serves_keep manifests v.0 p q (gates_view log_of faults_of g) (gates_view log_of faults_of h) (kept_at k v.0 p q g h v.1 p_there q_there g_there h_there))
 
       pub ends_back : All (λ (p : RealmPass). HasEnds p.mine) passes → All (λ (p : RealmPass). HasEnds p.mine) back.passes
-      ends_back ends = all_places (λ (p : RealmPass). HasEnds p.mine) back.passes (λ k q there. (let at = back_at k q there in after at.p q at.g at.h at.keeps (at_place (λ (p : RealmPass). HasEnds p.mine) passes k at.p ends at.there))) where
+      ends_back ends = all_places (λ (p : RealmPass). HasEnds p.mine) back.passes (λ k q there. (let at = back_at k q there in after at.p q at.g at.h at.keeps (All_slice_get (λ (p : RealmPass). HasEnds p.mine) passes k at.p ends at.there))) where
         after : (p q : RealmPass) (g h : GatesView) → KeepsOrNot manifests p q g h → HasEnds p.mine → HasEnds q.mine
         after p q g h (inl same) has = subst (λ (x : RealmPass). HasEnds x.mine) (sym same.0) has
         after p q g h (inr keeps) has = grown_has_ends p.mine keeps.part q.mine has keeps.closed keeps.mine
@@ -266,4 +267,4 @@ keeps_all log_of faults_of manifests passes gates own = record { passes = refl; 
   each k p q g h p_there q_there g_there h_there =
       subst (λ (x : RealmPass). KeepsPass manifests p x (gates_view log_of faults_of g) (gates_view log_of faults_of h)) (same_Some p q (sym p_there ∙ q_there))
       (subst (λ (x : _). KeepsPass manifests p p (gates_view log_of faults_of g) (gates_view log_of faults_of x)) (same_Some g h (sym g_there ∙ h_there))
-      (keeps_nothing manifests p (gates_view log_of faults_of g) (at_place IsOwnPass passes k p own p_there)))
+      (keeps_nothing manifests p (gates_view log_of faults_of g) (All_slice_get IsOwnPass passes k p own p_there)))

@@ -4,10 +4,11 @@ use Rattle.std.proofs.lemmas.List.{map-append}
 use Rattle.std.specs.List.{AllZip}
 use lib.Seq.{take_all}
 use Rattle.std.proofs.lemmas.List.Concat.{flat_map-append}
-use Rattle.std.proofs.lemmas.List.Elements.{All-append, All-from_recursion}
+use Rattle.std.proofs.lemmas.List.Elements.{All-append}
 use Rattle.std.specs.Io.KnownBytes.{Appends, IsAtEnd}
 use Rattle.std.proofs.KnownBytes.{Appends-trans, Consumes-nil, Consumes-trans, Appends-nil}
 use Rattle.std.proofs.lemmas.Bool.{cases_Bool}
+use Rattle.cm_facts.proofs.Lists.{All_one}
 use Rattle.cm_io.specs.Lines.{Moves, lines}
 use Rattle.cm_io.specs.LinesInside.{EndsOnce, IsFirstLine, Reader}
 use Rattle.cm_io.specs.Orders.{MovesCame, InStep, Move, given_in, hung_up}
@@ -89,11 +90,8 @@ whole-prefix a b xs h = (length xs, subst (Appends a b) (sym (take_all (length x
 
 -- ---- lists
 
-all-one : {A : Type 0} (P : A → Type 0) (x : A) → P x → All P (x ∷ [])
-all-one P x p = All-from_recursion P (x ∷ []) (p, tt)
-
 all-push : {A : Type 0} (P : A → Type 0) (xs : List A) (x : A) → All P xs → P x → All P (xs ++ x ∷ [])
-all-push P xs x all p = All-append P xs (x ∷ []) all (all-one P x p)
+all-push P xs x all p = All-append P xs (x ∷ []) all (All_one P x p)
 
 zip-push : {A B : Type 0} (R : A → B → Type 0) (xs : List A) (ys : List B) (x : A) (y : B) → AllZip R xs ys → R x y → AllZip R (xs ++ x ∷ []) (ys ++ y ∷ [])
 zip-push R [] [] x y h r = (r, tt)

@@ -1,20 +1,13 @@
 -- What stands at the places of lists.
-use Rattle.std.proofs.Common.{◌≡◌, ℕ, zero, suc, ◌<◌, List, [], ◌∷◌, ◌++◌, All, Any, map, length, get_or, Option, Some, refl, sym, ap, ◌∙◌, subst, arith}
+use Rattle.std.proofs.Common.{◌≡◌, ℕ, suc, ◌<◌, List, [], ◌∷◌, ◌++◌, All, Any, map, length, get_or, Option, Some, refl, sym, ap, ◌∙◌, arith}
 use Rattle.std.specs.List.{slice_get}
-use Rattle.std.proofs.lemmas.List.{length-append, length-map, get_or_append_left}
+use Rattle.std.proofs.lemmas.List.{length-append, get_or_append_left}
 use Rattle.std.proofs.lemmas.Option.{get_or_from_slice_get, slice_get-get_or, slice_get-map, slice_get_within, same_Some}
 use Rattle.std.specs.Prelude.{option_map}
-
-pub there_at : {A : Type 0} (xs : List A) (k : ℕ) → k < length xs → (x : A) × (slice_get xs k ≡ Some x)
-there_at [] k lt = absurd (omega (arith, lt))
-there_at (x ∷ xs) zero lt = (x, refl)
-there_at (x ∷ xs) (suc k) lt = there_at xs k (grind (arith, lt))
+use Rattle.cm_facts.proofs.Lists.{length_by_map, slice_get_some}
 
 pub all_places : {A : Type 0} (P : A → Type 0) (xs : List A) → ((k : ℕ) (x : A) → slice_get xs k ≡ Some x → P x) → All P xs
 all_places P xs each k d lt = each k (get_or xs k d) (slice_get-get_or xs k d lt)
-
-pub at_place : {A : Type 0} (P : A → Type 0) (xs : List A) (k : ℕ) (x : A) → All P xs → slice_get xs k ≡ Some x → P x
-at_place P xs k x all there = subst P (get_or_from_slice_get xs k x x there) (all k x (slice_get_within xs k x there))
 
 pub any_place : {A : Type 0} (P : A → Type 0) (xs : List A) (k : ℕ) (x : A) → slice_get xs k ≡ Some x → P x → Any P xs
 any_place P xs k x there is = (k, x, slice_get_within xs k x there, get_or_from_slice_get xs k x x there, is)
@@ -28,9 +21,6 @@ any_append P xs ys any =
 pub at_map : {A B : Type 0} (f : A → B) (xs : List A) (ys : List B) (k : ℕ) (x : A) → map f xs ≡ ys → slice_get xs k ≡ Some x → slice_get ys k ≡ Some (f x)
 at_map f xs ys k x is there = ap (λ (l : List _). slice_get l k) (sym is) ∙ slice_get-map f xs k ∙ ap (option_map f) there
 
-pub as_long : {A B C : Type 0} (f : A → C) (g : B → C) (xs : List A) (ys : List B) → map f xs ≡ map g ys → length xs ≡ length ys
-as_long f g xs ys is = sym (length-map xs f) ∙ ap (λ (l : List _). length l) is ∙ length-map ys g
-
 -- the field of what stands there, which is some item of the other list
 pub field_at : {A B : Type 0} (f : A → Option B) (xs : List A) (ys : List B) (k : ℕ) (x : A) (y : B) → map f xs ≡ map Some ys → slice_get xs k ≡ Some x → slice_get ys k ≡ Some y → f x ≡ Some y
 field_at f xs ys k x y is there here = same_Some (f x) (Some y) (sym (at_map f xs (map Some ys) k x is there) ∙ at_map Some ys (map Some ys) k y refl here)
@@ -38,8 +28,8 @@ field_at f xs ys k x y is there here = same_Some (f x) (Some y) (sym (at_map f x
 -- and the item of the other list, by the field
 pub item_at : {A B : Type 0} (f : A → Option B) (xs : List A) (ys : List B) (k : ℕ) (x : A) (y : B) → map f xs ≡ map Some ys → slice_get xs k ≡ Some x → f x ≡ Some y → slice_get ys k ≡ Some y
 item_at f xs ys k x y is there here =
-    let within : k < length ys = grind (arith, slice_get_within xs k x there, as_long f Some xs ys is) in
-    let t = there_at ys k within in
+    let within : k < length ys = grind (arith, slice_get_within xs k x there, length_by_map f Some xs ys is) in
+    let t = slice_get_some ys k within in
     t.1 ∙ ap Some (same_Some t.0 y (sym (field_at f xs ys k x t.0 is there t.1) ∙ here))
 
 -- a property of what stands there, which is the same in both lists

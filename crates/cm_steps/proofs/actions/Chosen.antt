@@ -1,6 +1,5 @@
 -- A pick of an instance that is given.
-use Rattle.std.proofs.Common.{◌≡◌, ◌≢◌, ℕ, List, [], Bool, true, false, cond, Option, Some, IsTrue, refl, sym, ◌∙◌, ap, subst, inl, inr}
-use Rattle.std.specs.Prelude.{IfSome}
+use Rattle.std.proofs.Common.{◌≡◌, ◌≢◌, ℕ, List, [], Bool, true, false, cond, Some, IsTrue, refl, sym, ◌∙◌, ap, subst, inl, inr}
 use Rattle.std.specs.Option.{option_map_or}
 use Rattle.cm_world.specs.declared.row.Row.{Row}
 use Rattle.cm_world.specs.declared.action.Work.{Work}
@@ -23,9 +22,6 @@ use Rattle.cm_steps.specs.declared.nostep.NoStep.{NoStep}
 use Rattle.cm_steps.specs.declared.nostep.NoStep.TheVariants.{Busy, HistoryFull, Memory}
 use Rattle.cm_steps.specs.declared.replies.picking.PickAnswer.{PickAnswer}
 use Rattle.cm_steps.specs.declared.replies.picking.PickAnswer.TheVariants as pick
-
-pub this_some : {A : Type 0} (P : A → Type 0) (o : Option A) (x : A) → o ≡ Some x → IfSome o P → P x
-this_some P o x e h = subst (λ o. IfSome o P) e h
 
 -- the one that was picked is this one
 pub this_is : (rows : List Row) (t i : ℕ) (p : Picked) (on : Bool) → p ≡ cond on (StopNow i) (ShutNow i) → IsPicked rows t p → PicksNow rows t i on

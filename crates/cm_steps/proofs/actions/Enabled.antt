@@ -5,7 +5,7 @@ use Rattle.std.specs.List.{list_any}
 use Rattle.std.specs.Option.{option_map_or}
 use Rattle.std.proofs.lemmas.Bool.{and_parts, and_from}
 use Rattle.std.proofs.lemmas.Option.{same_Some, none-some}
-use Rattle.cm_decl.proofs.Sameness.{never}
+use Rattle.cm_facts.proofs.Options.{is_some_false, option_map_none}
 use Rattle.cm_world.specs.declared.row.Row.{Row}
 use Rattle.cm_world.specs.declared.action.Act.{Act}
 use Rattle.cm_world.specs.declared.action.Join.{Join}
@@ -33,9 +33,6 @@ use Rattle.cm_steps.specs.Enabled.{goes_with, MayEndBut, IsEnabledBut, BringsVal
 pub true_iff : (a b : Bool) → a ≡ b → IsTrue a ↔ IsTrue b
 true_iff a b e = (λ h. sym e ∙ h, λ h. e ∙ h)
 
-pub never_so : {P : Type 0} → (P → ⊥) → IsTrue false ↔ P
-never_so out = (λ no_way. never no_way, λ it. absurd (out it))
-
 pub always_so : {P : Type 0} → P → IsTrue true ↔ P
 always_so it = (λ yes. it, λ h. refl)
 
@@ -46,13 +43,9 @@ is_so v w caller e f b same is h =
 
 -- ---- what was told of a row
 
-dead_by : (o : Option Row) → None ≡ option_map facts_of o → o ≡ None
-dead_by None e = refl
-dead_by (Some r) e = absurd (none-some (facts_of r) e)
-
 -- where no facts are told, none lives
 pub dead_is : (rows : List Row) (i : ℕ) → None ≡ option_map facts_of (row_of rows i) → row_of rows i ≡ None
-dead_is rows i e = dead_by (row_of rows i) e
+dead_is rows i e = option_map_none facts_of (row_of rows i) (sym e)
 
 -- ---- begins
 
@@ -118,13 +111,9 @@ pub not_own : (acts : List Act) (caller a : ℕ) (f : Finish) (x : Act) → Some
 not_own acts caller a f x found other it =
     other (ap (λ (y : Act). y.by) (sym (same_act_of acts caller a f x found it)) ∙ it.own)
 
-open_by : {A : Type 0} (o : Option A) → is_some o ≡ false → o ≡ None
-open_by None e = refl
-open_by (Some x) e = absurd (true≢false e)
-
 pub ends_if : (acts : List Act) (caller a : ℕ) (f : Finish) (x : Act) (b : Bool) → Some x ≡ act_of acts a → is_some x.outcome ≡ false → x.by ≡ caller → b ≡ fits_kind x.kind f → IsTrue b ↔ MayEndBut acts caller a f
 ends_if acts caller a f x b found unended own fits = (
-  λ h. record { act = x; there = sym found; pending = open_by x.outcome unended; own = own; fitting = sym fits ∙ h },
+  λ h. record { act = x; there = sym found; pending = is_some_false x.outcome unended; own = own; fitting = sym fits ∙ h },
   λ it. fits ∙ ap (λ (y : Act). fits_kind y.kind f) (sym (same_act_of acts caller a f x found it)) ∙ it.fitting,
 )
 

@@ -1,7 +1,8 @@
 -- What the end of an action needs, and what it leaves.
-use Rattle.std.proofs.Common.{◌≡◌, ℕ, ◌+◌, ◌-◌, ◌≤◌, ◌==◌, List, [], ◌∷◌, ◌++◌, Bool, true, false, ◌&&◌, length, Some, is_some, option_and_then, refl, sym, ◌∙◌, ap, subst, arith}
+use Rattle.std.proofs.Common.{◌≡◌, ℕ, ◌+◌, ◌-◌, ◌≤◌, ◌==◌, List, [], ◌∷◌, ◌++◌, Bool, true, false, length, Some, is_some, option_and_then, refl, sym, ◌∙◌, ap, subst, arith}
 use Rattle.std.specs.Option.{option_map_or}
 use Rattle.std.specs.List.{count_by}
+use Rattle.cm_facts.proofs.Booleans.{and_false}
 use Rattle.cm_world.specs.declared.row.Row.{Row}
 use Rattle.cm_world.specs.declared.frame.Frame.{Frame}
 use Rattle.cm_world.specs.declared.action.Act.{Act}
@@ -56,24 +57,20 @@ inc-ended acts caller a f may = ap (λ o. option_map_or (λ x. x.inc) o 0) may.t
 
 -- ---- what the end of an action needs
 
-never_open : (b : Bool) → (b && false) ≡ false
-never_open true = refl
-never_open false = refl
-
 -- one open resolve less where it was one, whatever becomes of it
 pub one_left : (acts : List Act) (a : ℕ) (o : Outcome) → option_map_or is_open_resolve (act_of acts a) false ≡ true → count_by is_open_resolve (ended a o acts) + 1 ≡ count_by is_open_resolve acts
-one_left acts a o h = count_one (λ (x : Act). x.action == a) is_open_resolve (put_outcome o) acts (λ x. never_open (same_act x.kind Resolve)) h
+one_left acts a o h = count_one (λ (x : Act). x.action == a) is_open_resolve (put_outcome o) acts (λ x. and_false (same_act x.kind Resolve)) h
 
 -- and as many where it wasn't
 pub same_left : (acts : List Act) (a : ℕ) (o : Outcome) → option_map_or is_open_resolve (act_of acts a) false ≡ false → count_by is_open_resolve (ended a o acts) ≡ count_by is_open_resolve acts
-same_left acts a o h = count_same (λ (x : Act). x.action == a) is_open_resolve (put_outcome o) acts (λ x. never_open (same_act x.kind Resolve)) h
+same_left acts a o h = count_same (λ (x : Act). x.action == a) is_open_resolve (put_outcome o) acts (λ x. and_false (same_act x.kind Resolve)) h
 
 -- where a resolve has ended, there is one less that is open
 pub resolves_left : (acts : List Act) (caller a : ℕ) (f : Finish) (o : Outcome) → MayEnd acts caller a f → count_by is_open_resolve (ended a o acts) + takes_of f ≤ count_by is_open_resolve acts
 resolves_left acts caller a (finish.Resolved url d) o may =
     let less = resolve_less acts caller a url d o may in omega arith
 resolves_left acts caller a (finish.Other p) o may =
-    let less = count_le (λ (x : Act). x.action == a) is_open_resolve (put_outcome o) acts (λ x. never_open (same_act x.kind Resolve)) in omega arith
+    let less = count_le (λ (x : Act). x.action == a) is_open_resolve (put_outcome o) acts (λ x. and_false (same_act x.kind Resolve)) in omega arith
 
 -- the row of an open resolve can take a declaration over, in memory that is kept
 pub can_take : (t : Tree) (acts : List Act) (caller a i : ℕ) (e : Ending) → (may : MayEnd acts caller a (finish_of e)) → i ≡ may.act.inc → IsTasked t.rows acts → count_by is_open_resolve acts ≤ t.spare → CanTakeEnd t i e

@@ -6,6 +6,8 @@ use Rattle.std.specs.List.{cons_option, filter_map}
 use Rattle.std.specs.Option.{option_eq, option_map_or}
 use Rattle.std.specs.Cmp.{unsigned_Decides}
 use Rattle.std.proofs.lemmas.Bool.{lt-ltb, le-ltb}
+use Rattle.cm_facts.proofs.Options.{option_map_none}
+use Rattle.cm_facts.proofs.Lists.{map_agree}
 use Rattle.cm_world.specs.declared.row.Row.{Row}
 use Rattle.cm_world.specs.Rows.{row_of, has_parent, is_closed}
 use Rattle.cm_world.specs.RowsInside.{is_behind}
@@ -35,10 +37,6 @@ doomed_child p r = cond (has_parent p r && r.doomed) (Some r.inc) None
 each_same : (f : Row → Row) → ((r : Row) → f r ≡ r) → (xs : List Row) → map f xs ≡ xs
 each_same f same [] = refl
 each_same f same (x ∷ xs) = ap (λ y. y ∷ map f xs) (same x) ∙ ap (λ ys. x ∷ ys) (each_same f same xs)
-
-each_as : (f g : Row → Row) → ((r : Row) → f r ≡ g r) → (xs : List Row) → map f xs ≡ map g xs
-each_as f g same [] = refl
-each_as f g same (x ∷ xs) = ap (λ y. y ∷ map f xs) (same x) ∙ ap (λ ys. g x ∷ ys) (each_as f g same xs)
 
 -- a change that the row of that incarnation doesn't tell apart from another
 changed_by : (t : Bool) (f g : Row → Row) (i : ℕ) (x : Row) (xs : List Row) → ((r : Row) → cond t (Some x) (row_of xs i) ≡ Some r → f r ≡ g r) → (((r : Row) → row_of xs i ≡ Some r → f r ≡ g r) → changed i f xs ≡ changed i g xs) → cond t (f x ∷ xs) (x ∷ changed i f xs) ≡ cond t (g x ∷ xs) (x ∷ changed i g xs)
@@ -127,7 +125,7 @@ own_goes i next (x ∷ xs) increasing dynamic =
 
 pub expired_once : (rows : List Row) (next i : ℕ) → IsOrderly rows next → is_closed rows i ≡ false → runs_once rows i ≡ true → expired i rows ≡ changed i doomed_if_dynamic rows
 expired_once rows next i orderly unclosed once =
-    each_as (λ r. cond (goes_with rows i r && not r.doomed) (set_doomed r) r) (λ r. cond ((r.inc == i) && not r.doomed) (set_doomed r) r)
+    map_agree (λ r. cond (goes_with rows i r && not r.doomed) (set_doomed r) r) (λ r. cond ((r.inc == i) && not r.doomed) (set_doomed r) r)
     (λ r. ap (λ b. cond (b && not r.doomed) (set_doomed r) r) (open_goes rows i true unclosed once r)) rows
     ∙ own_goes i next rows orderly.increasing (λ r lives. once_row rows i r lives once)
 
@@ -263,12 +261,8 @@ module _ (p : ℕ) where
       let both = all_at (has_parent p x) (is_behind after x.inc) x (find (λ y. has_parent p y && is_behind after y.inc) xs) e in
       ap (λ y. y ∷ doomed_up_to p after xs) both.0 ∙ ap (λ ys. cond (has_parent p x) (doomed_if_dynamic x) x ∷ ys) (all_up after xs both.1)
 
-  none_by : (o : Option Row) → option_map (λ r. r.inc) o ≡ None → o ≡ None
-  none_by None e = refl
-  none_by (Some r) e = absurd (none_some r.inc (sym e))
-
   pub up_all : (after : Option ℕ) (rows : List Row) → next_of (has_parent p) after rows ≡ None → doomed_up_to p after rows ≡ doomed_below p rows
-  up_all after rows e = all_up after rows (none_by (find (λ y. has_parent p y && is_behind after y.inc) rows) e)
+  up_all after rows e = all_up after rows (option_map_none (λ (r : Row). r.inc) (find (λ y. has_parent p y && is_behind after y.inc) rows) e)
 
 -- ---- what a reap names
 

@@ -4,6 +4,7 @@ use Rattle.std.specs.Cmp.{unsigned_Decides}
 use Rattle.std.specs.List.{filter_map}
 use Rattle.std.proofs.lemmas.List.{get_or-map, length-map, take_more, take_all}
 use Rattle.std.proofs.lemmas.List.Elements.{filter_map-append}
+use Rattle.cm_facts.proofs.Numbers.{eq_of_lt}
 use Rattle.cm_world.specs.declared.row.Row.{Row}
 use Rattle.cm_world.specs.Rows.{row_of, is_below, subtree}
 use Rattle.cm_world.specs.Sound.{IncarnationsIncrease, IsOrderly}
@@ -11,14 +12,10 @@ use Rattle.cm_world.specs.World.{root_row}
 
 -- ---- rows of a list
 
-apart : (t : Bool) (n m : ℕ) → (n == m) ≡ t → n < m → t ≡ false
-apart true n m same low = let e : n ≡ m = (unsigned_Decides n m).0 same in absurd (omega arith)
-apart false n m same low = refl
-
 lives_later : (x : Row) (xs : List Row) (next i : ℕ) (r : Row) → IncarnationsIncrease next (x ∷ xs) → row_of xs i ≡ Some r → row_of (x ∷ xs) i ≡ Some r
 lives_later x xs next i r increasing lives =
     let low : x.inc < i = increasing.0.1 i (ap is_some lives) in
-    rw (apart (x.inc == i) x.inc i refl low) lives
+    rw (eq_of_lt (x.inc == i) x.inc i refl low) lives
 
 -- each row of those that pass a test is the row of its incarnation
 lives_at : (p : Row → Bool) (rows : List Row) (next i : ℕ) (d : Row) → IncarnationsIncrease next rows → i < length (filter p rows) → row_of rows (get_or (filter p rows) i d).inc ≡ Some (get_or (filter p rows) i d)

@@ -10,6 +10,7 @@ use Rattle.cm_world.specs.Expiring.{runs_once, goes_with, expired}
 use Rattle.cm_world.specs.Sound.{IsOrderly}
 use Rattle.cm_world.proofs.trees.Finding.{none_some, some_same, row_of-inc}
 use Rattle.std.specs.Cmp.{unsigned_Decides, second_so}
+use Rattle.cm_facts.proofs.Lists.{map_agree}
 use Rattle.cm_cache.specs.Beside.{goes_some}
 use Rattle.cm_walk.proofs.descents.Behind.{next_of, IsNext, is_next}
 use Rattle.cm_steps.specs.Expiring.{doomed_if_dynamic}
@@ -71,10 +72,6 @@ going_below : (b d m : Bool) (r : Row) → cond ((b && d) && not m) (set_doomed 
 going_below true d m r = refl
 going_below false d m r = refl
 
-maps_as : (f g : Row → Row) → ((r : Row) → f r ≡ g r) → (xs : List Row) → map f xs ≡ map g xs
-maps_as f g same [] = refl
-maps_as f g same (x ∷ xs) = ap (λ y. y ∷ map f xs) (same x) ∙ ap (λ ys. g x ∷ ys) (maps_as f g same xs)
-
 -- the child that was looked at stays as it is: all up to it do
 pub still_more : (p : ℕ) (after : Option ℕ) (rows : List Row) (next j : ℕ) → IsOrderly rows next → next_of (has_parent p) after rows ≡ Some j → doomed_up_to p after rows ≡ rows → may_go rows j ≡ false → doomed_up_to p (Some j) rows ≡ rows
 still_more p after rows next j orderly found still stays =
@@ -84,7 +81,7 @@ still_more p after rows next j orderly found still stays =
 pub none_left : (p : ℕ) (after : Option ℕ) (rows : List Row) → next_of (has_parent p) after rows ≡ None → doomed_up_to p after rows ≡ rows → false ≡ list_any (λ r. has_parent p r && is_dynamic r && not r.doomed) rows
 none_left p after rows none still =
     sym (none_fixed (λ r. has_parent p r && is_dynamic r) rows
-    (maps_as (λ r. cond ((has_parent p r && is_dynamic r) && not r.doomed) (set_doomed r) r) (λ r. cond (has_parent p r) (doomed_if_dynamic r) r) (λ r. going_below (has_parent p r) (is_dynamic r) r.doomed r) rows
+    (map_agree (λ r. cond ((has_parent p r && is_dynamic r) && not r.doomed) (set_doomed r) r) (λ r. cond (has_parent p r) (doomed_if_dynamic r) r) (λ r. going_below (has_parent p r) (is_dynamic r) r.doomed r) rows
     ∙ sym (up_all p after rows none) ∙ still))
 
 found_by : (p : ℕ) (o : Option Row) (rows : List Row) (j : ℕ) → row_of rows j ≡ o → option_map_or (λ r. is_dynamic r && not r.doomed) o false ≡ true → option_map_or (has_parent p) o false ≡ true → list_any (λ r. has_parent p r && is_dynamic r && not r.doomed) rows ≡ true

@@ -2,12 +2,13 @@
 use Rattle.std.proofs.Common.{◌≡◌, ℕ, zero, suc, ◌<◌, List, [], ◌∷◌, length, Bool, true, false, cond, ◌||◌, ◌==◌, true≢false, Option, Some, None, refl, sym, ◌∙◌, ap, subst, arith, inl, inr, ◌⊎◌, ne_eqb}
 use Rattle.std.specs.Cmp.{unsigned_Decides}
 use Rattle.std.proofs.Math.Bool.{or-true}
+use Rattle.cm_facts.proofs.Numbers.{lt_of_lt_suc}
 use Rattle.cm_world.specs.declared.row.Row.{Row}
 use Rattle.cm_world.specs.End.{changed}
 use Rattle.cm_world.specs.Rows.{row_of, is_below, at_or_above, some_above}
 use Rattle.cm_world.specs.Sound.{IsOrderly, IsParent}
 use Rattle.cm_world.proofs.trees.Finding.{none_some, row_of-inc}
-use Rattle.cm_world.proofs.trees.Climbing.{some_above-step, above_root, fewer}
+use Rattle.cm_world.proofs.trees.Climbing.{some_above-step, above_root}
 use Rattle.cm_table.proofs.tree.Rows.{row_of-changed, Was, was_before, Becomes, becomes_after}
 use Rattle.cm_table.proofs.tree.Leaves.{below_itself}
 
@@ -45,7 +46,7 @@ module _ (P : Row → Bool) (a b : List Row) (na nb : ℕ) (oa : IsOrderly a na)
       some_above-step P b nb i t.row ob t.lives
       ∙ ap (λ x. x || at_or_above (length b) P b t.row.parent) t.test
       ∙ ap (λ u. P r || at_or_above (length b) P b u) t.parent
-      ∙ ap (λ x. P r || x) (tests_by i r r.parent here refl (λ p q less lives. tests_below n p q (fewer p i n less low) lives))
+      ∙ ap (λ x. P r || x) (tests_by i r r.parent here refl (λ p q less lives. tests_below n p q (lt_of_lt_suc p i n less low) lives))
       ∙ sym (some_above-step P a na i r oa here)
 
   pub tests_same : (i : ℕ) (r : Row) → row_of a i ≡ Some r → some_above P b i ≡ some_above P a i
@@ -131,7 +132,7 @@ module _ (P : Row → Bool) (f : Row → Row) (rows : List Row) (next x : ℕ) (
 
   marked_below : (n i : ℕ) (r : Row) → i < n → row_of rows i ≡ Some r → some_above P after i ≡ (some_above P rows i || is_below rows x i)
   marked_below zero i r low here = absurd (omega arith)
-  marked_below (suc n) i r low here = marked_by i r (i == x) refl here (λ p q less lives. marked_below n p q (fewer p i n less low) lives)
+  marked_below (suc n) i r low here = marked_by i r (i == x) refl here (λ p q less lives. marked_below n p q (lt_of_lt_suc p i n less low) lives)
 
   marked_all : (i : ℕ) (q : Option Row) → row_of rows i ≡ q → some_above P after i ≡ (some_above P rows i || is_below rows x i)
   marked_all i (Some r) e = marked_below (suc i) i r (omega arith) e

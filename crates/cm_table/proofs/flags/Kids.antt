@@ -3,12 +3,13 @@ use Rattle.std.proofs.Common.{◌≡◌, ℕ, ◌<◌, ◌≤◌, ◌+◌, ◌-�
 use Rattle.std.specs.Option.{option_eq}
 use Rattle.std.specs.Cmp.{unsigned_Decides, first_so, second_so}
 use Rattle.std.proofs.lemmas.Bool.{lt-ltb, ltb-true, and_from}
+use Rattle.cm_facts.proofs.Options.{option_eq_some}
 use Rattle.cm_world.specs.declared.row.Row.{Row}
 use Rattle.cm_world.specs.Rows.{row_of, has_parent}
 use Rattle.cm_world.specs.RowsInside.{is_behind, child_behind}
 use Rattle.cm_world.specs.Sound.{IncarnationsIncrease, IsOrderly}
 use Rattle.cm_world.proofs.trees.Finding.{none_some, some_same, row_of-inc, find-passes}
-use Rattle.cm_world.proofs.trees.Walks.{find-lives, parent_is}
+use Rattle.cm_world.proofs.trees.Walks.{find-lives}
 use Rattle.cm_table.specs.declared.marks.MarkKind.{MarkKind}
 use Rattle.cm_table.specs.declared.slot.Slot.{Slot}
 use Rattle.cm_table.specs.Flags.{flag_of}
@@ -80,7 +81,7 @@ next_kid_by rows next p c after (Some z) orderly found e =
       child = record {
         row = z;
         lives = subst (λ i. row_of rows i ≡ Some z) own (find-lives (λ y. has_parent p y && is_behind after y.inc) rows next z orderly.increasing found);
-        under = parent_is p z.parent (first_so (has_parent p z) (is_behind after z.inc) passes);
+        under = option_eq_some z.parent p (first_so (has_parent p z) (is_behind after z.inc) passes);
       };
       behind = subst (λ i. IsTrue (is_behind after i)) own (second_so (has_parent p z) (is_behind after z.inc) passes);
       least = λ i r here up later. subst (λ n. n ≤ i) own (find_least (λ y. has_parent p y && is_behind after y.inc) rows next i z r orderly.increasing found here (kid_passes rows p i after r here up later));

@@ -2,11 +2,12 @@
 use Rattle.std.proofs.Common.{◌≡◌, ℕ, zero, suc, ◌<◌, List, length, Bool, true, false, ◌||◌, ◌==◌, true≢false, Option, Some, None, refl, sym, ◌∙◌, ap, subst, ◌⊎◌, inl, inr, arith, ne_eqb}
 use Rattle.std.specs.Cmp.{unsigned_Decides, both_ways}
 use Rattle.std.proofs.lemmas.Bool.{or_left, or_right}
+use Rattle.cm_facts.proofs.Numbers.{lt_of_lt_suc}
 use Rattle.cm_world.specs.declared.row.Row.{Row}
 use Rattle.cm_world.specs.Rows.{row_of, is_below, at_or_above}
 use Rattle.cm_world.specs.Sound.{IsOrderly, IsParent}
 use Rattle.cm_world.proofs.trees.Finding.{none_some, row_of-inc}
-use Rattle.cm_world.proofs.trees.Climbing.{some_above-step, above_root, fewer}
+use Rattle.cm_world.proofs.trees.Climbing.{some_above-step, above_root}
 use Rattle.cm_table.specs.declared.marks.MarkKind.{MarkKind}
 use Rattle.cm_table.specs.declared.slot.Slot.{Slot}
 use Rattle.cm_table.specs.Flags.{flag_of}
@@ -63,7 +64,7 @@ module _ (k : MarkKind) where
   flagged_below (suc n) ss next top i o down done low e =
       let q : (r : Row) × (row_of (rows_in ss) i ≡ Some r) = below_lives (rows_in ss) top i e in
       step_by ss next top i q.0 (q.0.inc == top) refl o down done q.1
-      (λ p less. flagged_below n ss next top p o down done (fewer p i n less low))
+      (λ p less. flagged_below n ss next top p o down done (lt_of_lt_suc p i n less low))
       (sym (some_above-step (λ s. s.inc == top) (rows_in ss) next i q.0 o q.1) ∙ e)
 
   -- ---- from one turn to the next

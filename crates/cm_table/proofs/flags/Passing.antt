@@ -2,6 +2,7 @@
 use Rattle.std.proofs.Common.{◌≡◌, ℕ, ◌<◌, List, length, map, Bool, true, false, ◌||◌, ◌==◌, true≢false, Option, Some, None, refl, sym, ◌∙◌, ap, subst, ◌⊎◌, inl, inr, ⊎_elim, arith, ne_eqb}
 use Rattle.std.specs.Prelude.{option_and_then}
 use Rattle.std.proofs.lemmas.Bool.{or_left, or_right}
+use Rattle.cm_facts.proofs.Booleans.{or_true_second}
 use Rattle.cm_world.specs.declared.row.Row.{Row}
 use Rattle.cm_world.specs.Edits.{edit_first}
 use Rattle.cm_world.specs.Rows.{row_of, is_live, is_below, at_or_above}
@@ -44,10 +45,6 @@ only_by : (f : Bool) (i b : ℕ) (below : ℕ → Bool) → below b ≡ true →
 only_by f i b below within (inl old) = or_left f (below i) old
 only_by f i b below within (inr is) = or_right f (below i) (ap below is ∙ within)
 
-left_by : (a b : Bool) → a ≡ false → (a || b) ≡ true → b ≡ true
-left_by true b e h = absurd (true≢false e)
-left_by false b e h = h
-
 unmarked_by : (k : MarkKind) (ss : List Slot) (b p : ℕ) → (flag_of k ss p ≡ true → ⊥) → (p ≡ b → ⊥) → flag_of k (edit_first (λ s. s.row.inc == b) (flagged k) ss) p ≡ false
 unmarked_by k ss b p old differ = by (flag_of k (edit_first (λ s. s.row.inc == b) (flagged k) ss) p) refl where
   by : (f : Bool) → flag_of k (edit_first (λ s. s.row.inc == b) (flagged k) ss) p ≡ f → f ≡ false
@@ -75,7 +72,7 @@ goes_on k ss zs next top b o down bottom differ is =
     let rows : rows_in zs ≡ rows_in ss = rows_alike ss zs (ap (map unmarked) is ∙ same-flagged k b ss) in
     let q : (r : Row) × (row_of (rows_in ss) b ≡ Some r) = some_is (row_of (rows_in ss) b) bottom.within.lives in
     let other : (q.0.inc == top) ≡ false = ne_eqb q.0.inc top (λ e. differ (sym (row_of-inc (rows_in ss) b q.0 q.1) ∙ e)) in
-    let above = left_by (q.0.inc == top) (at_or_above (length (rows_in ss)) (λ s. s.inc == top) (rows_in ss) q.0.parent) other (sym (some_above-step (λ s. s.inc == top) (rows_in ss) next b q.0 o q.1) ∙ bottom.within.below) in
+    let above = or_true_second (q.0.inc == top) (at_or_above (length (rows_in ss)) (λ s. s.inc == top) (rows_in ss) q.0.parent) other (sym (some_above-step (λ s. s.inc == top) (rows_in ss) next b q.0 o q.1) ∙ bottom.within.below) in
     subst (λ u. GoesOn k zs top u) (sym (ap (λ l. option_and_then (λ r. r.parent) (row_of l b)) rows ∙ ap (option_and_then (λ r. r.parent)) q.1))
     (goes_by k ss next top b q.0 q.0.parent o down bottom q.1 refl above zs is)
 

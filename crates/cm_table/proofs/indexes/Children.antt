@@ -5,6 +5,7 @@ use Rattle.std.specs.Option.{option_eq}
 use Rattle.std.specs.Cmp.{unsigned_Decides, first_so, second_so}
 use Rattle.std.proofs.lemmas.Bool.{not-true}
 use Rattle.cm_names.specs.declared.child.ChildName.{ChildName}
+use Rattle.cm_facts.proofs.Options.{option_eq_some}
 use Rattle.cm_decl.specs.Same.{same_child}
 use Rattle.cm_decl.proofs.Sameness.{same_child_exact}
 use Rattle.cm_world.specs.declared.row.Row.{Row}
@@ -14,7 +15,7 @@ use Rattle.cm_world.specs.RowsInside.{is_behind, child_behind}
 use Rattle.cm_world.specs.End.{changed, set_doomed}
 use Rattle.cm_world.specs.Sound.{IncarnationsIncrease, IsOrderly}
 use Rattle.cm_world.proofs.trees.Finding.{some_same, none_some, find-passes}
-use Rattle.cm_world.proofs.trees.Walks.{find-lives, parent_is}
+use Rattle.cm_world.proofs.trees.Walks.{find-lives}
 use Rattle.cm_table.specs.Keys.{EachItem}
 use Rattle.cm_table.specs.Links.{unless}
 use Rattle.cm_table.specs.Reading.{is_there}
@@ -147,7 +148,7 @@ named_row rows next p c r increasing e =
     let both : IsTrue (has_parent p r && has_name c r) = first_so (has_parent p r && has_name c r) (not r.doomed) passes in
     record {
       lives = find-lives (is_there p c) rows next r increasing e;
-      under = parent_is p r.parent (first_so (has_parent p r) (has_name c r) both);
+      under = option_eq_some r.parent p (first_so (has_parent p r) (has_name c r) both);
       named = name_by c r.name (second_so (has_parent p r) (has_name c r) both);
       alive = not-true r.doomed (second_so (has_parent p r && has_name c r) (not r.doomed) passes);
     }
@@ -298,7 +299,7 @@ kids_live rows next p increasing =
       one n h = record {
         row = h.0;
         lives = subst (λ k. row_of rows k ≡ Some h.0) h.1 h.3;
-        under = parent_is p h.0.parent h.2;
+        under = option_eq_some h.0.parent p h.2;
         below = subst (λ k. k < next) h.1 (lives_below rows next h.0.inc h.0 increasing h.3);
       }
 

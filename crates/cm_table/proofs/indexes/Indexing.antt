@@ -4,6 +4,9 @@ use Rattle.std.specs.Prelude.{option_map}
 use Rattle.std.specs.Option.{option_eq}
 use Rattle.std.specs.Cmp.{unsigned_Decides}
 use Rattle.cm_names.specs.declared.child.ChildName.{ChildName}
+use Rattle.cm_facts.proofs.Booleans.{and_and_not}
+use Rattle.cm_facts.proofs.Options.{option_map_none}
+use Rattle.cm_facts.proofs.Lists.{find_last}
 use Rattle.cm_decl.specs.declared.rows.Child.{Child}
 use Rattle.cm_decl.specs.Same.{same_child}
 use Rattle.cm_decl.proofs.Sameness.{same_child_exact}
@@ -20,7 +23,6 @@ use Rattle.cm_table.specs.Slots.{inc_of, slot_of, rows_in, indexed_by, with_row_
 use Rattle.cm_table.specs.Links.{unless, IsSame, IsLinked, IsUnlinked}
 use Rattle.cm_table.specs.Numbering.{IsBare}
 use Rattle.cm_table.specs.Reading.{is_there}
-use Rattle.cm_table.proofs.tree.Adding.{none_mapped}
 use Rattle.cm_table.proofs.tree.Leaves.{without}
 use Rattle.cm_table.proofs.lists.Editing.{edited, dropped}
 use Rattle.cm_table.proofs.lists.EachItem.{each_map, each_append, each_edited, each_dropped, each_zip, each_of_edited}
@@ -95,9 +97,6 @@ all_same rows next ss ts rel all = each_zip IsSame (IsIndexed rows next) (IsInde
 
 -- ---- one child more
 
-both_true : (a b d : Bool) → a ≡ true → b ≡ true → d ≡ false → (a && b && not d) ≡ true
-both_true a b d x y z = ap (λ t. t && b && not d) x ∙ ap (λ t. t && not d) y ∙ ap not z
-
 name_false : (a b d : Bool) → b ≡ false → (a && b && d) ≡ false
 name_false true b d e = ap (λ t. t && d) e
 name_false false b d e = refl
@@ -105,10 +104,6 @@ name_false false b d e = refl
 last_none_by : (b : Bool) (t : Row → Bool) (x : Row) (xs : List Row) (r : Row) → (find t xs ≡ None → find t (xs ++ r ∷ []) ≡ Some r) → cond b (Some x) (find t xs) ≡ None → cond b (Some x) (find t (xs ++ r ∷ [])) ≡ Some r
 last_none_by true t x xs r later h = absurd (none_some x (sym h))
 last_none_by false t x xs r later h = later h
-
-last_none : (t : Row → Bool) (xs : List Row) (r : Row) → t r ≡ true → find t xs ≡ None → find t (xs ++ r ∷ []) ≡ Some r
-last_none t [] r hit none = ap (λ b. cond b (Some r) None) hit
-last_none t (x ∷ xs) r hit none = last_none_by (t x) t x xs r (last_none t xs r hit) none
 
 last_missed : (t : Row → Bool) (xs : List Row) (r : Row) → t r ≡ false → find t (xs ++ r ∷ []) ≡ find t xs
 last_missed t [] r miss = ap (λ b. cond b (Some r) None) miss
@@ -126,8 +121,8 @@ own_parent p r e = ap (λ o. option_eq nat_eq o (Some p)) e ∙ (unsigned_Decide
 pushed_by : (b : Bool) (rows : List Row) (p : ℕ) (name c : ChildName) (r : Row) → IsLast p name r → child_of rows p name ≡ None → same_child name c ≡ b → child_of (rows ++ r ∷ []) p c ≡ cond b (Some r.inc) (child_of rows p c)
 pushed_by true rows p name c r l unused same =
     let is : name ≡ c = same_child_exact name c same in
-    let none : find (is_there p c) rows ≡ None = none_mapped (λ (s : Row). s.inc) (find (is_there p c) rows) (ap (child_of rows p) (sym is) ∙ unused) in
-    ap (option_map (λ s. s.inc)) (last_none (is_there p c) rows r (both_true (has_parent p r) (has_name c r) r.doomed (own_parent p r l.under) (ap (λ o. option_eq same_child o (Some c)) l.named ∙ same) l.alive) none)
+    let none : find (is_there p c) rows ≡ None = option_map_none (λ (s : Row). s.inc) (find (is_there p c) rows) (ap (child_of rows p) (sym is) ∙ unused) in
+    ap (option_map (λ s. s.inc)) (find_last (is_there p c) rows r none (and_and_not (has_parent p r) (has_name c r) r.doomed (own_parent p r l.under) (ap (λ o. option_eq same_child o (Some c)) l.named ∙ same) l.alive))
 pushed_by false rows p name c r l unused same =
     ap (option_map (λ s. s.inc)) (last_missed (is_there p c) rows r (name_false (has_parent p r) (has_name c r) (not r.doomed) (ap (λ o. option_eq same_child o (Some c)) l.named ∙ same)))
 

@@ -1,10 +1,10 @@
 -- The index of declared children, numbered from 0 on, and from any other number on.
-use Rattle.std.proofs.Common.{◌≡◌, ℕ, suc, zero, ◌+◌, ◌<◌, subst, List, [], ◌∷◌, ◌++◌, map, length, Bool, true, false, cond, ◌==◌, ◌&&◌, Option, Some, None, find, refl, sym, ap, ◌∙◌, arith, take, get_or, le_of_suc-le-suc, add-zero}
+use Rattle.std.proofs.Common.{◌≡◌, ℕ, suc, zero, ◌+◌, ◌<◌, subst, List, [], ◌∷◌, ◌++◌, map, length, Bool, true, false, cond, ◌&&◌, Option, Some, None, find, refl, sym, ap, ◌∙◌, arith, take, get_or, le_of_suc-le-suc, add-zero}
 use Rattle.std.specs.Prelude.{option_map}
-use Rattle.std.specs.Cmp.{unsigned_Decides}
 use Rattle.std.proofs.lemmas.List.{take_more, length-take, map-append}
 use Rattle.cm_names.specs.declared.child.ChildName.{ChildName}
 use Rattle.cm_names.specs.declared.moniker.Moniker.{Moniker}
+use Rattle.cm_facts.proofs.Numbers.{eq_self}
 use Rattle.cm_decl.specs.declared.rows.Child.{Child}
 use Rattle.cm_decl.specs.declared.decl.Decl.{Decl}
 use Rattle.cm_decl.specs.Graph.{static_name}
@@ -97,16 +97,13 @@ from_by : (t : Bool) (p first a : ℕ) (k : Child) (o q : Option Row) → option
 from_by true p first a k o q e = refl
 from_by false p first a k o q e = e
 
-own_number : (p : ℕ) → (p == p) ≡ true
-own_number p = (unsigned_Decides p p).1 refl
-
 pub names_from : (p first a : ℕ) (c : ChildName) (ks : List Child) → option_map (λ n. first + n) (child_of (child_rows 0 a ks) 0 c) ≡ child_of (child_rows p (first + a) ks) p c
 names_from p first a c [] = refl
 names_from p first a c (k ∷ ks) =
     let e : first + (a + 1) ≡ first + a + 1 = omega arith in
     from_by (same_child (static_name k.name) c) p first a k (find (is_there 0 c) (child_rows 0 (a + 1) ks)) (find (is_there p c) (child_rows p (first + a + 1) ks))
     (names_from p first (a + 1) c ks ∙ ap (λ n. child_of (child_rows p n ks) p c) e)
-    ∙ sym (ap (λ b. option_map (λ r. r.inc) (cond (b && same_child (static_name k.name) c && true) (Some (child_row p (first + a) k)) (find (is_there p c) (child_rows p (first + a + 1) ks)))) (own_number p))
+    ∙ sym (ap (λ b. option_map (λ r. r.inc) (cond (b && same_child (static_name k.name) c && true) (Some (child_row p (first + a) k)) (find (is_there p c) (child_rows p (first + a + 1) ks)))) (eq_self p))
 
 pub kids_first : (p first : ℕ) (ks : List Child) → map (λ k. first + k) (incs (child_rows 0 0 ks)) ≡ incs (child_rows p first ks)
 kids_first p first ks = kids_from p first 0 ks ∙ ap (λ n. incs (child_rows p n ks)) (add-zero first)

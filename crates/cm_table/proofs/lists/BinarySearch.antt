@@ -6,6 +6,7 @@ use Rattle.std.specs.List.Sorted.{IsNonDecreasingBy}
 use Rattle.std.specs.Cmp.{unsigned_Decides}
 use Rattle.std.proofs.lemmas.List.{get_or_default}
 use Rattle.std.proofs.lemmas.Option.{slice_get_within, slice_get-get_or}
+use Rattle.cm_facts.proofs.Options.{cond_is_some, cond_some_more}
 use Rattle.cm_table.specs.Keys.{item_of, first_key, alone, nth, reaches, Increasing, Filled, IsItemAt, IsPlace}
 
 -- ---- single facts
@@ -22,10 +23,6 @@ one_less k differ = omega arith
 
 -- ---- two lists
 
-pub some_cond : {A : Type 0} (t : Bool) (x : A) (o : Option A) → IsSome o → IsSome (cond t (Some x) o)
-some_cond true x o h = refl
-some_cond false x o h = h
-
 some_more : {A : Type 0} (t : Bool) (x : A) (o p : Option A) → (IsSome o → IsSome p) → IsSome (cond t (Some x) o) → IsSome (cond t (Some x) p)
 some_more true x o p later h = refl
 some_more false x o p later h = later h
@@ -37,7 +34,7 @@ none_by false x o all p later e = later e
 module _ {Y : Type 0} (key : Y → ℕ) where
   pub some_left : (xs ys : List Y) (j : ℕ) → IsSome (item_of key ys j) → IsSome (item_of key (xs ++ ys) j)
   some_left [] ys j h = h
-  some_left (x ∷ xs) ys j h = some_cond (key x == j) x (item_of key (xs ++ ys) j) (some_left xs ys j h)
+  some_left (x ∷ xs) ys j h = cond_is_some (key x == j) x (item_of key (xs ++ ys) j) (some_left xs ys j h)
 
   pub some_right : (xs ys : List Y) (j : ℕ) → IsSome (item_of key xs j) → IsSome (item_of key (xs ++ ys) j)
   some_right [] ys j h = absurd (true≢false (sym h))
@@ -68,14 +65,10 @@ module _ {Y : Type 0} (key : Y → ℕ) where
   none_append [] ys i e = refl
   none_append (x ∷ xs) ys i e = none_by (key x == i) x (item_of key xs i) (item_of key (xs ++ ys) i) (item_of key ys i) (none_append xs ys i) e
 
-  first_by : (t : Bool) (x y : Y) (o p : Option Y) → (o ≡ Some y → p ≡ Some y) → cond t (Some x) o ≡ Some y → cond t (Some x) p ≡ Some y
-  first_by true x y o p later at = at
-  first_by false x y o p later at = later at
-
   pub some_prefix : (xs ys : List Y) (i : ℕ) (y : Y) → item_of key xs i ≡ Some y → item_of key (xs ++ ys) i ≡ Some y
   some_prefix [] ys i y at = absurd (true≢false (sym (ap is_some at)))
   some_prefix (x ∷ xs) ys i y at =
-      first_by (key x == i) x y (item_of key xs i) (item_of key (xs ++ ys) i) (some_prefix xs ys i y) at
+      cond_some_more (key x == i) x y (item_of key xs i) (item_of key (xs ++ ys) i) (some_prefix xs ys i y) at
 
   -- ---- a list of parts
 
@@ -238,7 +231,7 @@ module _ {Y : Type 0} (key : Y → ℕ) where
   some_at : (ss : List Y) (j : ℕ) (d : Y) → j < length ss → IsSome (item_of key ss (key (get_or ss j d)))
   some_at [] j d lt = absurd (omega arith)
   some_at (s ∷ ss) zero d lt = own s ss
-  some_at (s ∷ ss) (suc j) d lt = some_cond (key s == key (get_or ss j d)) s (item_of key ss (key (get_or ss j d))) (some_at ss j d (le_of_suc-le-suc lt))
+  some_at (s ∷ ss) (suc j) d lt = cond_is_some (key s == key (get_or ss j d)) s (item_of key ss (key (get_or ss j d))) (some_at ss j d (le_of_suc-le-suc lt))
 
   -- keys rise by places
   pub strictly : (ss : List Y) (j k : ℕ) (d : Y) → Increasing key ss → j < k → k < length ss → key (get_or ss j d) < key (get_or ss k d)

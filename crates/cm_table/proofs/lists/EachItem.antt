@@ -1,10 +1,11 @@
 -- A property of all items, and a relation of the items of two lists.
-use Rattle.std.proofs.Common.{◌≡◌, ℕ, zero, suc, ◌<◌, List, [], ◌∷◌, ◌++◌, Bool, true, false, cond, ◌==◌, true≢false, Option, Some, IsSome, find, refl, sym, ap, ◌∙◌, subst, ne_of_lt}
+use Rattle.std.proofs.Common.{◌≡◌, ℕ, zero, suc, ◌<◌, List, [], ◌∷◌, ◌++◌, Bool, true, false, cond, ◌==◌, true≢false, Some, IsSome, find, refl, sym, ap, ◌∙◌, subst, ne_of_lt}
 use Rattle.std.specs.Cmp.{unsigned_Decides}
+use Rattle.cm_facts.proofs.Options.{cond_is_some, cond_some_holds}
 use Rattle.cm_world.specs.Edits.{edit_first, drop_first}
 use Rattle.cm_world.proofs.trees.Finding.{some_same, none_some}
 use Rattle.cm_table.specs.Keys.{EachItem, EachOf, item_of, nth, Increasing}
-use Rattle.cm_table.proofs.lists.BinarySearch.{own, some_cond}
+use Rattle.cm_table.proofs.lists.BinarySearch.{own}
 use Rattle.cm_table.proofs.lists.Editing.{edited}
 
 module _ {A : Type 0} where
@@ -16,13 +17,9 @@ module _ {A : Type 0} where
   each_append P [] ys a b = b
   each_append P (x ∷ xs) ys a b = (a.0, each_append P xs ys a.1 b)
 
-  find_by : (t : Bool) (P : A → Type 0) (x y : A) (o : Option A) → P x → (o ≡ Some y → P y) → cond t (Some x) o ≡ Some y → P y
-  find_by true P x y o here later e = subst P (some_same x y e) here
-  find_by false P x y o here later e = later e
-
   pub each_find : (P : A → Type 0) (p : A → Bool) (xs : List A) (y : A) → EachItem P xs → find p xs ≡ Some y → P y
   each_find P p [] y all e = absurd (none_some y e)
-  each_find P p (x ∷ xs) y all e = find_by (p x) P x y (find p xs) all.0 (each_find P p xs y all.1) e
+  each_find P p (x ∷ xs) y all e = cond_some_holds P (p x) x y (find p xs) all.0 (each_find P p xs y all.1) e
 
   pub each_nth : (P : A → Type 0) (xs : List A) (k : ℕ) (y : A) → EachItem P xs → nth xs k ≡ Some y → P y
   each_nth P [] k y all e = absurd (none_some y e)
@@ -60,7 +57,7 @@ module _ {Y : Type 0} (key : Y → ℕ) where
   -- what stands behind a key is above it
   pub above : (i : ℕ) (ss : List Y) → ((j : ℕ) → IsSome (item_of key ss j) → i < j) → EachItem (λ s. i < key s) ss
   above i [] h = tt
-  above i (s ∷ ss) h = (h (key s) (own key s ss), above i ss (λ j g. h j (some_cond (key s == j) s (item_of key ss j) g)))
+  above i (s ∷ ss) h = (h (key s) (own key s ss), above i ss (λ j g. h j (cond_is_some (key s == j) s (item_of key ss j) g)))
 
   both : (P Q : Y → Type 0) (ss : List Y) → EachItem P ss → EachItem Q ss → EachItem (λ s. P s × Q s) ss
   both P Q [] a b = tt

@@ -13,15 +13,11 @@ use Rattle.std.proofs.lemmas.List.FromFn.{length-range_with_len, get_or-range_wi
 use Rattle.std.proofs.lemmas.List.Sums.{position_or_len_is, passes_at_first}
 use Rattle.std.proofs.lemmas.List.Sorted.{ranks_by, sorted_far, Contains-permutation, IsPermutation-sym}
 use Rattle.std.proofs.lemmas.Option.{slice_get_within, slice_get-get_or, get_or_from_slice_get}
+use Rattle.cm_facts.proofs.Orders.{then_not_less}
 use Rattle.cm_world.proofs.trees.Finding.{none_some}
 use Rattle.cm_table.specs.Orders.{place_cmp_by, IsSplitBy, IsOrderBy}
 
 -- ---- single comparisons
-
-first_decides : (a b : Ordering) → is_lt (ordering_then a b) ≡ false → is_lt a ≡ false
-first_decides Less b h = absurd (true≢false h)
-first_decides Equal b h = refl
-first_decides Greater b h = refl
 
 -- what is neither before nor behind is the same
 squeeze : (a b n : Ordering) → a ≡ ordering_reverse b → is_lt b ≡ false → is_lt (ordering_then a n) ≡ false → (b ≡ Equal) × (is_lt n ≡ false)
@@ -58,7 +54,7 @@ module _ {X K : Type 0} (key : Option X → K) (cmp : K → K → Ordering) (tot
         let a = get_or places i d in
         let b = get_or places j d in
         let far : is_lt (cmp (key_at key items b) (key_at key items a)) ≡ false =
-        first_decides (cmp (key_at key items b) (key_at key items a)) (nat_cmp b a)
+        then_not_less (cmp (key_at key items b) (key_at key items a)) (nat_cmp b a)
         (sorted_far (λ (x : ℕ) (y : ℕ). is_lt (place_cmp_by key cmp items x y)) (place_weak items) places o.sorted i j d le lt) in
         lower_before (is_lt (cmp (key_at key items b) w)) (is_lt (cmp (key_at key items a) w)) h
         (λ e. key_weak.chain (key_at key items b) (key_at key items a) w far e)

@@ -3,6 +3,7 @@ use Rattle.std.proofs.Common.{◌≡◌, ℕ, suc, ◌+◌, ◌<◌, List, [], �
 use Rattle.std.specs.Prelude.{IfSome}
 use Rattle.std.proofs.lemmas.List.{length-append, get_or_at, set_at, map-append}
 use Rattle.cm_names.specs.declared.moniker.Moniker.{Moniker}
+use Rattle.cm_facts.proofs.Lists.{length_one_more}
 use Rattle.cm_world.proofs.trees.Finding.{none_some, some_same}
 use Rattle.cm_table.specs.declared.slot.Slot.{Slot}
 use Rattle.cm_table.specs.Keys.{EachItem}
@@ -37,9 +38,6 @@ next_own above first now i x h lt is =
     let q : (rest : List Slot) × (h.left ≡ x ∷ rest) = own_by above now h.done h.left i x h.parts h.long h.own lt is in
     (subst (EachItem HasOwnName) q.1 h.own).0
 
-one_longer : (done : List Slot) (y : Slot) (i : ℕ) → length done ≡ i → length (done ++ y ∷ []) ≡ i + 1
-one_longer done y i long = length-append done (y ∷ []) ∙ ap (λ n. n + 1) long
-
 pub one_more_hung : (above : Option Moniker) (first now : List Slot) (i : ℕ) (x y : Slot) → AreHung above first now i → i < length now → x ≡ get_or now i x → unhung y ≡ unhung x → IsMonikerBelow above y → AreHung above first (set now i y) (i + 1)
 one_more_hung above first now i x y h lt is same below =
     let q : (rest : List Slot) × (h.left ≡ x ∷ rest) = own_by above now h.done h.left i x h.parts h.long h.own lt is in
@@ -49,7 +47,7 @@ one_more_hung above first now i x y h lt is same below =
       done = h.done ++ y ∷ [];
       left = q.0;
       parts = put ∙ sym (append_assoc h.done (y ∷ []) q.0);
-      long = one_longer h.done y i h.long;
+      long = length_one_more h.done y i h.long;
       same = ap (map unhung) put ∙ map-append unhung h.done (y ∷ q.0) ∙ ap (λ z. map unhung h.done ++ z ∷ map unhung q.0) same
           ∙ sym (ap (map unhung) was ∙ map-append unhung h.done (x ∷ q.0)) ∙ h.same;
       below = each_append (IsMonikerBelow above) h.done (y ∷ []) h.below (below, tt);

@@ -2,12 +2,13 @@
 use Rattle.std.proofs.Common.{◌≡◌, ℕ, zero, suc, ◌<◌, List, ◌++◌, length, Option, Some, None, option_to_list, refl, sym, ◌∙◌, ap, arith, inl, inr, ◌⊎◌}
 use Rattle.cm_names.specs.declared.child.ChildName.{ChildName}
 use Rattle.cm_names.specs.declared.moniker.Moniker.{Moniker}
+use Rattle.cm_facts.proofs.Numbers.{lt_of_lt_suc}
 use Rattle.cm_world.specs.declared.row.Row.{Row}
 use Rattle.cm_world.specs.End.{changed}
 use Rattle.cm_world.specs.Rows.{row_of, names_to, moniker_of}
 use Rattle.cm_world.specs.RowsInside.{child_behind}
 use Rattle.cm_world.specs.Sound.{IsOrderly, IsParent}
-use Rattle.cm_world.proofs.trees.Climbing.{names_to-step, names_root, fewer}
+use Rattle.cm_world.proofs.trees.Climbing.{names_to-step, names_root}
 use Rattle.cm_table.proofs.tree.Leaves.{without, was_there, orderly_without}
 use Rattle.cm_table.proofs.tree.Orderly.{IsKeeping}
 use Rattle.cm_table.proofs.tree.Rows.{lives_left, Becomes, becomes_after}
@@ -34,7 +35,7 @@ module _ (a b : List Row) (na nb : ℕ) (oa : IsOrderly a na) (ob : IsOrderly b 
       names_to-step b nb i t.row ob t.lives
       ∙ ap (λ m. names_to (length b) b t.row.parent ++ option_to_list m) t.name
       ∙ ap (λ u. names_to (length b) b u ++ option_to_list r.name) t.parent
-      ∙ ap (λ l. l ++ option_to_list r.name) (names_by i r r.parent here refl (λ p q less lives. names_below n p q (fewer p i n less low) lives))
+      ∙ ap (λ l. l ++ option_to_list r.name) (names_by i r r.parent here refl (λ p q less lives. names_below n p q (lt_of_lt_suc p i n less low) lives))
       ∙ sym (names_to-step a na i r oa here)
 
   pub moniker_same : (i : ℕ) (r : Row) → row_of a i ≡ Some r → moniker_of b i ≡ moniker_of a i

@@ -1,9 +1,10 @@
 -- A child that is added.
 use Rattle.std.proofs.Common.{◌≡◌, ℕ, ◌+◌, List, [], ◌∷◌, ◌++◌, Bool, true, false, cond, not, ◌&&◌, ◌==◌, nat_eq, true≢false, Option, Some, None, IsSome, IsTrue, find, is_some, refl, sym, ◌∙◌, ap, subst}
-use Rattle.std.specs.Prelude.{option_map, option_and_then}
+use Rattle.std.specs.Prelude.{option_and_then}
 use Rattle.std.specs.Option.{option_eq}
 use Rattle.std.specs.Cmp.{unsigned_Decides}
 use Rattle.cm_names.specs.declared.child.ChildName.{ChildName}
+use Rattle.cm_facts.proofs.Options.{option_map_none}
 use Rattle.cm_decl.specs.declared.rows.Give.{Give}
 use Rattle.cm_decl.specs.declared.node.Node.TheVariants.{Child}
 use Rattle.cm_decl.specs.Same.{same_child}
@@ -19,10 +20,6 @@ use Rattle.cm_table.proofs.tree.Growth.{Joins, orderly_push}
 pub resolved_by : (o : Option Row) → is_some (option_and_then (λ r. r.decl) o) ≡ true → (q : Row) × (o ≡ Some q) × IsSome q.decl
 resolved_by None h = absurd (true≢false (sym h))
 resolved_by (Some q) h = (q, refl, h)
-
-pub none_mapped : {A B : Type 0} (f : A → B) (o : Option A) → option_map f o ≡ None → o ≡ None
-none_mapped f None e = refl
-none_mapped f (Some x) e = absurd (none_some (f x) (sym e))
 
 missed_by : (t u : Bool) (p q : Row → Bool) (x s : Row) (o r : Option Row) → p x ≡ t → (o ≡ None → r ≡ Some s → p s ≡ false) → cond t (Some x) o ≡ None → cond u (Some x) r ≡ Some s → p s ≡ false
 missed_by true u p q x s o r here later none e = absurd (none_some x (sym none))
@@ -54,7 +51,7 @@ is_there_by p c s doomed up named =
 pub added_joins : (rows : List Row) (next p : ℕ) (c : ChildName) (url : List ℕ) (gives : List Give) → IsTrue (is_resolved rows p) → child_of rows p c ≡ None → Joins rows next (new_row next (Some p) (Some c) url gives)
 added_joins rows next p c url gives resolved unused =
     let q : (q : Row) × (row_of rows p ≡ Some q) × IsSome q.decl = resolved_by (row_of rows p) resolved in
-    let none : find (is_there p c) rows ≡ None = none_mapped (λ (r : Row). r.inc) (find (is_there p c) rows) unused in
+    let none : find (is_there p c) rows ≡ None = option_map_none (λ (r : Row). r.inc) (find (is_there p c) rows) unused in
     record {
       parent = p;
       under = refl;

@@ -2,6 +2,8 @@
 use Rattle.std.proofs.Common.{◌≡◌, ℕ, zero, suc, ◌+◌, ◌<◌, List, [], ◌∷◌, Bool, true, false, cond, not, ◌&&◌, ◌||◌, ◌==◌, nat_eq, true≢false, Option, Some, None, IsSome, IsTrue, find, filter, length, refl, sym, ◌∙◌, ap, arith, ne_eqb, ne_of_lt}
 use Rattle.std.specs.Option.{option_eq}
 use Rattle.std.specs.Cmp.{unsigned_Decides}
+use Rattle.cm_facts.proofs.Numbers.{lt_of_lt_suc}
+use Rattle.cm_facts.proofs.Options.{option_map_none, cond_some_more}
 use Rattle.cm_world.specs.declared.row.Row.{Row}
 use Rattle.cm_world.specs.Edits.{drop_first}
 use Rattle.cm_world.specs.Rows.{row_of, at_or_above, some_above, is_below}
@@ -9,10 +11,10 @@ use Rattle.cm_world.specs.RowsInside.{child_behind}
 use Rattle.cm_world.specs.After.{others_than}
 use Rattle.cm_world.specs.Sound.{IncarnationsIncrease, IsOrderly, IsParent}
 use Rattle.cm_world.proofs.trees.Finding.{none_some, row_of-inc}
-use Rattle.cm_world.proofs.trees.Climbing.{fewer, some_above-step, above_root}
+use Rattle.cm_world.proofs.trees.Climbing.{some_above-step, above_root}
 use Rattle.cm_table.specs.Reading.{follows}
-use Rattle.cm_table.proofs.tree.Rows.{some_is, is_some_by, left_by}
-use Rattle.cm_table.proofs.tree.Adding.{none_mapped, missed}
+use Rattle.cm_table.proofs.tree.Rows.{some_is, is_some_by}
+use Rattle.cm_table.proofs.tree.Adding.{missed}
 
 -- the rows without that of an incarnation
 abbrev pub without : ℕ → List Row → List Row
@@ -24,7 +26,7 @@ left_at : (t : Bool) (i next j : ℕ) (x s : Row) (xs : List Row) → Incarnatio
 left_at true i next j x s xs increasing later e =
     let miss : (x.inc == j) ≡ false = ne_eqb x.inc j (ne_of_lt (increasing.0.1 j (is_some_by (row_of xs j) s e))) in
     rw miss e
-left_at false i next j x s xs increasing later e = left_by (x.inc == j) x s (row_of (without i xs) j) (row_of xs j) later e
+left_at false i next j x s xs increasing later e = cond_some_more (x.inc == j) x s (row_of (without i xs) j) (row_of xs j) later e
 
 -- what is left was there
 pub was_there : (i next j : ℕ) (rows : List Row) (s : Row) → IncarnationsIncrease next rows → row_of (without i rows) j ≡ Some s → row_of rows j ≡ Some s
@@ -51,7 +53,7 @@ past_by false i j x s o same own differ e = e
 
 stays_at : (t : Bool) (i j : ℕ) (x s : Row) (xs : List Row) → (x.inc == i) ≡ t → (j ≡ i → ⊥) → (row_of xs j ≡ Some s → row_of (without i xs) j ≡ Some s) → row_of (x ∷ xs) j ≡ Some s → row_of (cond t xs (x ∷ without i xs)) j ≡ Some s
 stays_at true i j x s xs own differ later e = past_by (x.inc == j) i j x s (row_of xs j) refl own differ e
-stays_at false i j x s xs own differ later e = left_by (x.inc == j) x s (row_of xs j) (row_of (without i xs) j) later e
+stays_at false i j x s xs own differ later e = cond_some_more (x.inc == j) x s (row_of xs j) (row_of (without i xs) j) later e
 
 -- every other row is left
 pub stays : (i j : ℕ) (rows : List Row) (s : Row) → (j ≡ i → ⊥) → row_of rows j ≡ Some s → row_of (without i rows) j ≡ Some s
@@ -80,7 +82,7 @@ has_by i p o up is = ap (λ z. option_eq nat_eq z (Some i) && true) (up ∙ ap S
 
 no_parent : (rows : List Row) (i j p : ℕ) (s : Row) → child_behind rows i None ≡ None → row_of rows j ≡ Some s → s.parent ≡ Some p → p ≡ i → ⊥
 no_parent rows i j p s childless here up is =
-    let none : find (follows i None) rows ≡ None = none_mapped (λ (r : Row). r.inc) (find (follows i None) rows) childless in
+    let none : find (follows i None) rows ≡ None = option_map_none (λ (r : Row). r.inc) (find (follows i None) rows) childless in
     true≢false (sym (has_by i p s.parent up is) ∙ missed (follows i None) (λ r. r.inc == j) rows s none here)
 
 parents_without : (rows : List Row) (next i j p : ℕ) (s : Row) → IsOrderly rows next → child_behind rows i None ≡ None → row_of rows j ≡ Some s → s.parent ≡ Some p → IsParent (without i rows) p j × IsSome s.name
@@ -111,7 +113,7 @@ above_below (suc n) passes rows next i j s o childless low here =
     some_above-step passes (without i rows) next j s rest here
     ∙ ap (λ b. passes s || b) (above_by passes rows next i (length (without i rows)) (length rows) s s.parent refl
     (λ p up. let q : IsParent (without i rows) p j = (rest.parents j p s here up).0 in
-    above_below n passes rows next i p q.row o childless (fewer p j n q.lower low) q.lives))
+    above_below n passes rows next i p q.row o childless (lt_of_lt_suc p j n q.lower low) q.lives))
     ∙ sym (some_above-step passes rows next j s o (was_there i next j rows s o.increasing here))
 
 -- it is the same as before

@@ -1,6 +1,7 @@
 -- A row without children is taken away, and removal goes on at its parent.
 use Rattle.std.proofs.Common.{◌≡◌, ℕ, ◌<◌, ◌-◌, ◌==◌, ◌||◌, List, Bool, true, false, true≢false, Option, Some, None, length, refl, sym, ◌∙◌, ap, subst, arith, ne_eqb}
 use Rattle.std.specs.Prelude.{option_map, option_and_then}
+use Rattle.cm_facts.proofs.Booleans.{or_true_second}
 use Rattle.cm_world.specs.declared.row.Row.{Row}
 use Rattle.cm_world.specs.Rows.{row_of, is_below, at_or_above}
 use Rattle.cm_world.specs.Sound.{IsOrderly, IsParent}
@@ -46,10 +47,6 @@ gone rows next i o = no_some (row_of (without i rows) i) (λ h.
     let q : (s : Row) × (row_of (without i rows) i ≡ Some s) = some_is (row_of (without i rows) i) h in
     not_taken i next i rows q.0 o.increasing q.1 refl)
 
-left_by : (a b : Bool) → a ≡ false → (a || b) ≡ true → b ≡ true
-left_by true b e h = absurd (true≢false e)
-left_by false b e h = h
-
 goes_by : (rows : List Row) (next top leaf : ℕ) (r : Row) (u : Option ℕ) → IsOrderly rows next → IsLeaf rows top leaf → row_of rows leaf ≡ Some r → r.parent ≡ u → at_or_above (length rows) (λ s. s.inc == top) rows u ≡ true → Goes (without leaf rows) top u
 goes_by rows next top leaf r None o l here up above = absurd (true≢false (sym above ∙ above_root (length rows) (λ s. s.inc == top) rows))
 goes_by rows next top leaf r (Some p) o l here up above =
@@ -68,7 +65,7 @@ goes_on rows next top leaf o l differ =
     let other : (q.0.inc == top) ≡ false = ne_eqb q.0.inc top (λ e. differ (sym (row_of-inc rows leaf q.0 q.1) ∙ e)) in
     subst (λ z. Goes (without leaf rows) top (option_and_then (λ r. r.parent) z)) (sym q.1)
     (goes_by rows next top leaf q.0 q.0.parent o l q.1 refl
-    (left_by (q.0.inc == top) (at_or_above (length rows) (λ s. s.inc == top) rows q.0.parent) other (sym (some_above-step (λ s. s.inc == top) rows next leaf q.0 o q.1) ∙ l.below)))
+    (or_true_second (q.0.inc == top) (at_or_above (length rows) (λ s. s.inc == top) rows q.0.parent) other (sym (some_above-step (λ s. s.inc == top) rows next leaf q.0 o q.1) ∙ l.below)))
 
 -- the parent, by slots
 pub parent_by_slots : (o : Option Slot) → option_and_then (λ s. s.row.parent) o ≡ option_and_then (λ r. r.parent) (option_map (λ s. s.row) o)

@@ -1,6 +1,7 @@
 -- The row of an incarnation, in rows that were changed and in rows with one more.
 use Rattle.std.proofs.Common.{◌≡◌, ℕ, ◌+◌, ◌<◌, List, [], ◌∷◌, ◌++◌, Bool, true, false, cond, ◌==◌, true≢false, Option, Some, None, IsSome, is_some, refl, sym, ap, subst, arith, inl, inr, ◌⊎◌}
 use Rattle.std.specs.Cmp.{unsigned_Decides}
+use Rattle.cm_facts.proofs.Options.{cond_some_more}
 use Rattle.cm_world.specs.declared.row.Row.{Row}
 use Rattle.cm_world.specs.Rows.{row_of}
 use Rattle.cm_world.specs.End.{changed}
@@ -17,13 +18,9 @@ is_some_by o x e = ap is_some e
 
 -- ---- with more rows behind
 
-pub left_by : (t : Bool) (x r : Row) (o all : Option Row) → (o ≡ Some r → all ≡ Some r) → cond t (Some x) o ≡ Some r → cond t (Some x) all ≡ Some r
-left_by true x r o all later e = e
-left_by false x r o all later e = later e
-
 pub lives_left : (xs ys : List Row) (i : ℕ) (r : Row) → row_of xs i ≡ Some r → row_of (xs ++ ys) i ≡ Some r
 lives_left [] ys i r e = absurd (none_some r e)
-lives_left (x ∷ xs) ys i r e = left_by (x.inc == i) x r (row_of xs i) (row_of (xs ++ ys) i) (lives_left xs ys i r) e
+lives_left (x ∷ xs) ys i r e = cond_some_more (x.inc == i) x r (row_of xs i) (row_of (xs ++ ys) i) (lives_left xs ys i r) e
 
 split_by : (t : Bool) (x r : Row) (o all more : Option Row) → (all ≡ Some r → (o ≡ Some r) ⊎ (more ≡ Some r)) → cond t (Some x) all ≡ Some r → (cond t (Some x) o ≡ Some r) ⊎ (more ≡ Some r)
 split_by true x r o all more later e = inl e

@@ -9,6 +9,7 @@ use Rattle.std.proofs.lemmas.Bool.Decides.{leb_tells}
 use Rattle.std.proofs.lemmas.Grind.{flat_map-append}
 use Rattle.std.proofs.lemmas.List.Folds.{list_all-append}
 use Rattle.std.specs.Cmp.{second_so}
+use Rattle.cm_facts.proofs.Numbers.{eq_high}
 use Rattle.cm_text.specs.Token.{Char, plain, taken}
 use Rattle.cm_text.specs.Split.{is_char}
 use Rattle.cm_text.specs.Json.{char_json}
@@ -30,14 +31,11 @@ AreHigh bs = (k : ℕ) → k < length bs → 128 ≤ get_or bs k 0
 high_tail : (b : ℕ) (bs : List ℕ) → AreHigh (b ∷ bs) → AreHigh bs
 high_tail b bs h k lt = h (suc k) (omega arith)
 
-high_not : (b c : ℕ) → 128 ≤ b → c < 128 → (b == c) ≡ false
-high_not b c h l = grind (arith, rules)
-
 high_within : (bs rest : List ℕ) → AreHigh bs → within false (bs ++ rest) ≡ map (λ x. plain x) bs ++ within false rest
 high_within [] rest h = refl
 high_within (b ∷ bs) rest h =
     let first : 128 ≤ b = h 0 (omega arith) in
-    within_plain b (bs ++ rest) (high_not b 92 first (omega arith)) ∙ ap (λ cs. plain b ∷ cs) (high_within bs rest (high_tail b bs h))
+    within_plain b (bs ++ rest) (eq_high b 92 first (omega arith)) ∙ ap (λ cs. plain b ∷ cs) (high_within bs rest (high_tail b bs h))
 
 high_taken : (bs rest : List ℕ) → 0 < length bs → AreHigh bs → within true (bs ++ rest) ≡ items_of true bs ++ within false rest
 unfolding items_of
@@ -59,14 +57,14 @@ high_json : (bs : List ℕ) → AreHigh bs → flat_map char_json (map (λ x. pl
 high_json [] h = refl
 high_json (b ∷ bs) h =
     let first : 128 ≤ b = h 0 (omega arith) in
-    ap (λ xs. xs ++ flat_map char_json (map (λ x. plain x) bs)) (plain_json b (high_not b 34 first (omega arith))) ∙ ap (λ xs. b ∷ xs) (high_json bs (high_tail b bs h))
+    ap (λ xs. xs ++ flat_map char_json (map (λ x. plain x) bs)) (plain_json b (eq_high b 34 first (omega arith))) ∙ ap (λ xs. b ∷ xs) (high_json bs (high_tail b bs h))
 
 high_taken_json : (bs : List ℕ) → 0 < length bs → AreHigh bs → flat_map char_json (items_of true bs) ≡ 92 ∷ bs
 unfolding items_of
 high_taken_json [] l h = absurd (omega arith)
 high_taken_json (b ∷ bs) l h =
     let first : 128 ≤ b = h 0 (omega arith) in
-    ap (λ xs. xs ++ flat_map char_json (map (λ x. plain x) bs)) (taken_json b (high_not b 39 first (omega arith))) ∙ ap (λ xs. 92 ∷ b ∷ xs) (high_json bs (high_tail b bs h))
+    ap (λ xs. xs ++ flat_map char_json (map (λ x. plain x) bs)) (taken_json b (eq_high b 39 first (omega arith))) ∙ ap (λ xs. 92 ∷ b ∷ xs) (high_json bs (high_tail b bs h))
 
 -- ---- one character
 
@@ -107,8 +105,8 @@ plain_text : (c : ℕ) → (c == 34) ≡ false → char_text false c ≡ encode_
 plain_text c e = rw e refl
 
 high_char_json : (e : Bool) (c : ℕ) → 128 ≤ c → flat_map char_json (items_of e (encode_utf8 c)) ≡ char_text e c
-high_char_json true c h = high_taken_json (encode_utf8 c) (some_bytes c) (encode_high c h) ∙ sym (taken_text c (high_not c 39 h (omega arith)))
-high_char_json false c h = ap (flat_map char_json) (high_items (encode_utf8 c)) ∙ high_json (encode_utf8 c) (encode_high c h) ∙ sym (plain_text c (high_not c 34 h (omega arith)))
+high_char_json true c h = high_taken_json (encode_utf8 c) (some_bytes c) (encode_high c h) ∙ sym (taken_text c (eq_high c 39 h (omega arith)))
+high_char_json false c h = ap (flat_map char_json) (high_items (encode_utf8 c)) ∙ high_json (encode_utf8 c) (encode_high c h) ∙ sym (plain_text c (eq_high c 34 h (omega arith)))
 
 item_json : (e : Bool) (c : ℕ) → flat_map char_json (items_of e (encode_utf8 c)) ≡ char_text e c
 item_json e c = elim (leb_tells 128 c) [

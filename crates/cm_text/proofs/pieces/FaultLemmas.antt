@@ -4,6 +4,7 @@ use Rattle.std.proofs.lemmas.Option.{none-some}
 use Rattle.std.specs.List.{list_all, flat_map}
 use Rattle.std.specs.Cmp.{first_so, second_so}
 use Rattle.std.proofs.lemmas.Bool.{not-true}
+use Rattle.cm_facts.proofs.Booleans.{or_false_first, or_false_second}
 use Rattle.cm_text.specs.Bytes.{is_mark, is_space, is_quote, is_word_byte, begins_with}
 use Rattle.cm_text.specs.Token.{Char, plain, taken, Piece, char_bytes}
 use Rattle.cm_text.specs.TokenInside.{bytes_of}
@@ -12,7 +13,7 @@ use Rattle.cm_text.specs.Pieces.{chars, comment, stray, unclosed, string_piece, 
 use Rattle.cm_text.specs.Facts.{FaultsAreComputed}
 use Rattle.cm_text.specs.declared.fault.TextFault.{TextFault}
 use Rattle.cm_text.specs.declared.fault.TextFault.TheVariants.{BadToken, Unclosed, Memory as OutOfMemory}
-use Rattle.cm_text.proofs.ByteLemmas.{quote_class, either_left, either_right}
+use Rattle.cm_text.proofs.ByteLemmas.{quote_class}
 use Rattle.cm_text.proofs.pieces.PieceLemmas.{with_pieces, first_ones, same_option}
 
 -- ---- faults
@@ -30,7 +31,7 @@ never_unclosed q bs h (Some cs) f = let c = f cs refl in absurd (h cs c.rest c.c
 -- no piece begins here
 no_slash_piece : (bs : List ℕ) → begins_with (λ c. (c == 47) || (c == 42)) bs ≡ false → comment_piece bs ≡ stray
 no_slash_piece [] h = refl
-no_slash_piece (c ∷ cs) h = rw (comment_piece, either_left (c == 47) (c == 42) h) (rw (either_right (c == 47) (c == 42) h) refl)
+no_slash_piece (c ∷ cs) h = rw (comment_piece, or_false_first (c == 47) (c == 42) h) (rw (or_false_second (c == 47) (c == 42) h) refl)
 
 stray_at : (b : ℕ) (bs : List ℕ) (e : Bool) → (b == 47) ≡ e → is_mark b ≡ false → is_space b ≡ false → is_quote b ≡ false → is_word_byte b ≡ false → (e && begins_with (λ c. (c == 47) || (c == 42)) bs) ≡ false → first_piece b bs ≡ stray
 stray_at b bs true e m s q w h = rw m (rw s (rw q (rw w (rw e (no_slash_piece bs h)))))
@@ -40,7 +41,7 @@ pub no_end : (cs : List ℕ) → has_end cs ≡ false → comment cs ≡ None
 unfolding comment
 no_end [] h = refl
 no_end (b ∷ bs) h =
-    rw (comment, either_left ((b == 42) && begins_with (λ c. c == 47) bs) (has_end bs) h) (ap (option_map (λ cs. b ∷ cs)) (no_end bs (either_right ((b == 42) && begins_with (λ c. c == 47) bs) (has_end bs) h)))
+    rw (comment, or_false_first ((b == 42) && begins_with (λ c. c == 47) bs) (has_end bs) h) (ap (option_map (λ cs. b ∷ cs)) (no_end bs (or_false_second ((b == 42) && begins_with (λ c. c == 47) bs) (has_end bs) h)))
 
 -- ---- strings that never end
 

@@ -4,6 +4,8 @@ use Rattle.std.specs.List.{list_all, flat_map}
 use Rattle.std.proofs.lemmas.List.{append_assoc, length-append}
 use Rattle.std.specs.Cmp.{first_so, second_so}
 use Rattle.std.proofs.lemmas.Bool.{not-true}
+use Rattle.cm_facts.proofs.Numbers.{eq_self}
+use Rattle.cm_facts.proofs.Booleans.{or_false_first, or_false_second}
 use Rattle.cm_text.specs.Bytes.{is_quote, is_word_byte, is_in_line, begins_with, closes_comment}
 use Rattle.cm_text.specs.Token.{Char, plain, taken, Token, mark, quoted, word, Piece, token, space, line_comment, block_comment, char_bytes, piece_bytes}
 use Rattle.cm_text.specs.TokenInside.{bytes_of}
@@ -11,7 +13,7 @@ use Rattle.cm_text.specs.Split.{is_char, has_end, is_piece, may_follow, are_piec
 use Rattle.cm_text.specs.Pieces.{chars, comment, piece, first_piece, with_piece, pieces, tokens_result}
 use Rattle.cm_text.specs.Facts.{TokensAreUnique, TokensAreComputed}
 use Rattle.cm_text.specs.declared.fault.TextFault.{TextFault}
-use Rattle.cm_text.proofs.ByteLemmas.{mark_class, space_class, quote_class, word_class, slash_no_quote, same, either_left, either_right}
+use Rattle.cm_text.proofs.ByteLemmas.{mark_class, space_class, quote_class, word_class, slash_no_quote}
 
 -- ---- what stands in front
 
@@ -34,7 +36,7 @@ same_option (Some cs) = refl
 
 pub chars_of : (q : ℕ) (cs : List Char) (rest : List ℕ) → is_quote q ≡ true → list_all (is_char q) cs ≡ true → chars q false (flat_map char_bytes cs ++ q ∷ rest) ≡ Some cs
 unfolding chars
-chars_of q [] rest quote h = rw (chars, same q) refl
+chars_of q [] rest quote h = rw (chars, eq_self q) refl
 chars_of q (plain b ∷ cs) rest quote h =
     let here : (not (b == q) && not (b == 92)) ≡ true = first_so (not (b == q) && not (b == 92)) (list_all (is_char q) cs) h in
     let no_quote : (b == q) ≡ false = not-true (b == q) (first_so (not (b == q)) (not (b == 92)) here) in
@@ -59,9 +61,9 @@ pub comment_of : (bs rest : List ℕ) → has_end (bs ++ 42 ∷ []) ≡ false �
 unfolding comment
 comment_of [] rest h = refl
 comment_of (b ∷ bs) rest h =
-    let here : ((b == 42) && begins_with (λ c. c == 47) (bs ++ 42 ∷ [])) ≡ false = either_left _ (has_end (bs ++ 42 ∷ [])) h in
+    let here : ((b == 42) && begins_with (λ c. c == 47) (bs ++ 42 ∷ [])) ≡ false = or_false_first _ (has_end (bs ++ 42 ∷ [])) h in
     let there : ((b == 42) && begins_with (λ c. c == 47) (bs ++ 42 ∷ 47 ∷ rest)) ≡ false = ap (λ t. (b == 42) && t) (begins_same (λ c. c == 47) bs 42 (47 ∷ rest) []) ∙ here in
-    rw (comment, there) (ap (option_map (λ cs. b ∷ cs)) (comment_of bs rest (either_right ((b == 42) && begins_with (λ c. c == 47) (bs ++ 42 ∷ [])) (has_end (bs ++ 42 ∷ [])) h)))
+    rw (comment, there) (ap (option_map (λ cs. b ∷ cs)) (comment_of bs rest (or_false_second ((b == 42) && begins_with (λ c. c == 47) (bs ++ 42 ∷ [])) (has_end (bs ++ 42 ∷ [])) h)))
 
 -- ---- passing over a piece
 

@@ -6,13 +6,14 @@ use Rattle.std.specs.Ordering.{is_eq, nat_cmp}
 use Rattle.std.proofs.Common.{Less, Equal, Greater}
 use Rattle.std.proofs.lemmas.Bool.{ltb-true, le-ltb, ltb-false}
 use Rattle.std.proofs.lemmas.Bool.{and_from, or_right}
+use Rattle.cm_facts.proofs.Options.{option_map_none}
 use Rattle.cm_world.specs.declared.row.Row.{Row}
 use Rattle.cm_world.specs.Rows.{row_of, has_parent}
 use Rattle.cm_world.specs.RowsInside.{is_behind}
 use Rattle.cm_world.specs.Sound.{IsOrderly}
 use Rattle.cm_world.proofs.trees.Finding.{none_some, row_of-inc}
 use Rattle.cm_walk.specs.Ahead.{is_child}
-use Rattle.cm_walk.proofs.descents.Behind.{IsNext, next_of, is_next, behind_more, none_by}
+use Rattle.cm_walk.proofs.descents.Behind.{IsNext, next_of, is_next, behind_more}
 use Rattle.cm_walk.proofs.ways.Standing.{find_least, find_some}
 
 -- ---- the order of numbers
@@ -103,7 +104,7 @@ none_behind rows p q after false none child behind = refl
 none_behind rows p q after true none child behind =
     let kid : (s : Row) × (row_of rows q ≡ Some s) × ((has_parent p s && is_behind after s.inc) ≡ true) = child_found rows p q after child behind in
     let found : (r : Row) × (find (λ s. has_parent p s && is_behind after s.inc) rows ≡ Some r) = find_some (λ s. has_parent p s && is_behind after s.inc) rows q kid.0 kid.1 kid.2 in
-    absurd (none_some found.0 (sym (none_by (find (λ s. has_parent p s && is_behind after s.inc) rows) none) ∙ found.1))
+    absurd (none_some found.0 (sym (option_map_none (λ (r : Row). r.inc) (find (λ s. has_parent p s && is_behind after s.inc) rows) none) ∙ found.1))
 
 -- at the end all are seen
 pub seen_all : (rows : List Row) (p q : ℕ) (after : Option ℕ) (old now : Bool) → next_of (has_parent p) after rows ≡ None → now ≡ (old || is_seen rows p after q) → now ≡ (old || is_child rows p q)

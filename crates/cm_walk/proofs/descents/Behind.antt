@@ -3,6 +3,7 @@ use Rattle.std.proofs.Common.{◌≡◌, ℕ, suc, ◌<◌, List, [], ◌∷◌,
 use Rattle.std.specs.List.{cons_option, filter_map}
 use Rattle.std.specs.Cmp.{unsigned_Decides, first_so, second_so}
 use Rattle.std.proofs.lemmas.Bool.{lt-ltb, le-ltb, ltb-true}
+use Rattle.cm_facts.proofs.Options.{option_map_none, cons_option_append}
 use Rattle.cm_world.specs.declared.row.Row.{Row}
 use Rattle.cm_world.specs.Rows.{row_of}
 use Rattle.cm_world.specs.RowsInside.{is_behind}
@@ -31,10 +32,6 @@ pub behind_more : (after : Option ℕ) (i s : ℕ) → is_behind after i ≡ tru
 behind_more None i s h up = refl
 behind_more (Some j) i s h up = let low : j < i = ltb-true j i h in lt-ltb j s (omega arith)
 
-one_first : {B : Type 0} (o : Option B) (rest : List B) → cons_option o rest ≡ option_to_list o ++ rest
-one_first None rest = refl
-one_first (Some y) rest = refl
-
 -- ---- the next row that passes
 
 -- a row that isn't taken may stand before the others or not
@@ -50,7 +47,7 @@ not_yet b q g after x xs next r increasing skip later e =
 
 here_is : {B : Type 0} (g : Row → Option B) (after : Option ℕ) (x : Row) (xs : List Row) (next : ℕ) → IncarnationsIncrease next (x ∷ xs) → is_behind after x.inc ≡ true → filter_map g (x ∷ behind after xs) ≡ option_to_list (g x) ++ filter_map g (behind (Some x.inc) (x ∷ xs))
 here_is g after x xs next increasing at =
-    one_first (g x) (filter_map g (behind after xs))
+    cons_option_append (g x) (filter_map g (behind after xs))
     ∙ ap (λ l. option_to_list (g x) ++ filter_map g l) (all_behind after xs (λ s h. behind_more after x.inc s at (increasing.0.1 s h)))
     ∙ sym (ap (λ l. option_to_list (g x) ++ filter_map g l) (
     ap (λ t. cond t (x ∷ behind (Some x.inc) xs) (behind (Some x.inc) xs)) (le-ltb x.inc x.inc (omega arith))
@@ -122,15 +119,10 @@ taken_more p g rows next j after seen more found orderly none e is pushed so_far
 pub taken_first : {B : Type 0} (g : Row → Option B) (rows : List Row) → [] ++ filter_map g (behind None rows) ≡ filter_map g rows
 taken_first g rows = ap (filter_map g) (all_behind None rows (λ s h. refl))
 
--- where none is told, none is found
-pub none_by : (o : Option Row) → option_map (λ r. r.inc) o ≡ None → o ≡ None
-none_by None e = refl
-none_by (Some r) e = absurd (none_some r.inc (sym e))
-
 -- at the end nothing is left
 pub taken_all : {B : Type 0} (p : Row → Bool) (g : Row → Option B) (rows : List Row) (after : Option ℕ) (seen : List B) → ((y : Row) → p y ≡ false → g y ≡ None) → next_of p after rows ≡ None → seen ++ filter_map g (behind after rows) ≡ filter_map g rows → seen ≡ filter_map g rows
 taken_all p g rows after seen none e so_far =
-    sym (ap (λ l. seen ++ l) (none_left p g after rows none (none_by (find (λ r. p r && is_behind after r.inc) rows) e)) ∙ append-nil seen) ∙ so_far
+    sym (ap (λ l. seen ++ l) (none_left p g after rows none (option_map_none (λ (r : Row). r.inc) (find (λ r. p r && is_behind after r.inc) rows) e)) ∙ append-nil seen) ∙ so_far
 
 -- ---- what is made of those that pass
 

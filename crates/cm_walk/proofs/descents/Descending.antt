@@ -5,10 +5,9 @@ use Rattle.std.specs.Cmp.{unsigned_Decides, first_so, second_so}
 use Rattle.std.specs.List.{filter_map, list_any}
 use Rattle.std.specs.Option.{option_map_or, option_eq}
 use Rattle.std.specs.Ordering.{is_eq, is_gt, nat_cmp}
-use Rattle.std.proofs.lemmas.Bool.{lt-ltb, ltb-true, ltb-false}
+use Rattle.std.proofs.lemmas.Bool.{lt-ltb, ltb-true, ltb-false, or_cases}
 use Rattle.std.proofs.lemmas.Map.Keys.{le_from_not_gt}
 use Rattle.std.proofs.lemmas.Bool.{or_left, or_right, and_from}
-use Rattle.cm_decl.proofs.Sameness.{or_split}
 use Rattle.cm_world.specs.declared.row.Row.{Row}
 use Rattle.cm_world.specs.Rows.{row_of, is_live, has_parent, is_below, subtree}
 use Rattle.cm_world.specs.RowsInside.{is_behind}
@@ -171,7 +170,7 @@ ahead_more rows next top j after ahead rest more orderly frontier member first p
       omega arith
 
   within : (q : ℕ) → IsTrue (is_in_set more q) → IsAfter rows top (Some j) q
-  within q there = elim (or_split (is_in_set rest q) (is_child rows j q) (sym (put q) ∙ there)) [
+  within q there = elim (or_cases (is_in_set rest q) (is_child rows j q) (sym (put q) ∙ there)) [
     | inl here ↦
         let was : IsTrue (is_in_set ahead q) × (j ≡ q → ⊥) = stays j q (is_eq (nat_cmp j q)) (is_in_set ahead q) refl (sym (popped q) ∙ here) in
         rest_after rows top j q after ahead frontier first was.0 was.1

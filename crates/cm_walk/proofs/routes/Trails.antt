@@ -12,13 +12,10 @@ use Rattle.cm_world.specs.Stations.{Station}
 use Rattle.cm_world.specs.Route.{asked_rights, first_rights, standing, is_use, is_offer_or_expose, unless_fitting, unless_within, weak_availability, weak_rights, path_of, provider_of, route_of}
 use Rattle.cm_walk.specs.declared.trail.Trail.{Trail}
 use Rattle.cm_names.specs.Availability.{stated_itself}
+use Rattle.cm_facts.proofs.Options.{cons_option_nil}
 use Rattle.cm_walk.specs.Walking.{begins_with_use, standing_by, IsBehind, path_at}
 
 -- ---- lists of options
-
-one_option : {Y : Type 0} (o : Option Y) → cons_option o [] ≡ option_to_list o
-one_option None = refl
-one_option (Some y) = refl
 
 first_option : {Y : Type 0} (o : Option Y) → slice_get (cons_option o []) 0 ≡ o
 first_option None = refl
@@ -81,7 +78,7 @@ IsBehind-more prefix s u next t made behind same hops subdirs availability from_
   subdirs =
       subdirs
       ∙ ap (λ xs. xs ++ option_to_list s.subdir) behind.subdirs
-      ∙ sym (filter_map-append (λ x. x.subdir) prefix (s ∷ []) ∙ ap (λ ys. filter_map (λ x. x.subdir) prefix ++ ys) (one_option s.subdir));
+      ∙ sym (filter_map-append (λ x. x.subdir) prefix (s ∷ []) ∙ ap (λ ys. filter_map (λ x. x.subdir) prefix ++ ys) (cons_option_nil s.subdir));
   availability = availability ∙ ap (λ a. standing_by a s.hop.availability) behind.availability ∙ sym (standing-more prefix s);
   from_use = from_use ∙ behind.from_use ∙ sym (begins-more prefix s u);
   asked =

@@ -8,6 +8,9 @@ use Rattle.std.proofs.lemmas.Bool.{or_parts, not-true, not-false}
 use Rattle.cm_names.specs.declared.child.ChildName.{ChildName}
 use Rattle.cm_names.specs.declared.moniker.Moniker.{Moniker}
 use Rattle.cm_names.specs.MonikerInside.{MonikerStartsWith}
+use Rattle.cm_facts.proofs.Booleans.{and_and_not}
+use Rattle.cm_facts.proofs.Options.{option_eq_some}
+use Rattle.cm_facts.proofs.Lists.{length_one_more}
 use Rattle.cm_decl.specs.Same.{same_child}
 use Rattle.cm_decl.specs.declared.node.Node.TheVariants.{Child}
 use Rattle.cm_decl.proofs.Sameness.{same_child_exact, same_node-refl}
@@ -22,7 +25,7 @@ use Rattle.cm_world.specs.Offering.{told_index}
 use Rattle.cm_world.specs.Located.{located_from}
 use Rattle.cm_world.specs.Find.{found_from}
 use Rattle.cm_world.proofs.trees.Finding.{some_same, none_some, find-passes}
-use Rattle.cm_world.proofs.trees.Walks.{find-lives, parent_is}
+use Rattle.cm_world.proofs.trees.Walks.{find-lives}
 use Rattle.cm_world.proofs.trees.Climbing.{names_to-step, names_root, some_above-step}
 use Rattle.cm_walk.specs.Laws.{IsFindReply, FindsAsLocated}
 use Rattle.cm_walk.specs.Leading.{LeadsDownTo}
@@ -66,15 +69,12 @@ replies_by rows i k prefix c cs len later false o = refl
 replies_by rows i k prefix c cs len later true None = missing prefix c cs k len
 replies_by rows i k prefix c cs len later true (Some j) = later j
 
-one_longer : (prefix : List ChildName) (c : ChildName) (k : ℕ) → length prefix ≡ k → length (prefix ++ c ∷ []) ≡ k + 1
-one_longer prefix c k len = length-append prefix (c ∷ []) ∙ ap (λ n. n + 1) len
-
 replies_from : (rows : List Row) (i k : ℕ) (prefix cs : List ChildName) → length prefix ≡ k → IsFindReply rows (prefix ++ cs) (located_from rows i k cs) (found_from rows i prefix cs)
 replies_from rows i k prefix [] len = refl
 replies_from rows i k prefix (c ∷ cs) len =
     replies_by rows i k prefix c cs len
     (λ j. subst (λ l. IsFindReply rows l (located_from rows j (k + 1) cs) (found_from rows j (prefix ++ c ∷ []) cs))
-    (append_assoc prefix (c ∷ []) cs) (replies_from rows j (k + 1) (prefix ++ c ∷ []) cs (one_longer prefix c k len)))
+    (append_assoc prefix (c ∷ []) cs) (replies_from rows j (k + 1) (prefix ++ c ∷ []) cs (length_one_more prefix c k len)))
     (is_resolved rows i) (child_of rows i c)
 
 -- a find replies as its moniker leads
@@ -105,12 +105,6 @@ finds_some q [] i r lives passes = absurd (none_some r lives)
 finds_some q (s ∷ ss) i r lives passes =
     some_by (s.inc == i) (q s) q s r ss (row_of ss i) refl (λ e. finds_some q ss i r e passes) lives passes
 
-all_three : (a b d : Bool) → a ≡ true → b ≡ true → d ≡ false → (a && b && not d) ≡ true
-all_three true true false one two three = refl
-all_three true true true one two three = absurd (true≢false three)
-all_three true false d one two three = absurd (true≢false (sym two))
-all_three false b d one two three = absurd (true≢false (sym one))
-
 name_is : (c : ChildName) (o : Option ChildName) → option_eq same_child o (Some c) ≡ true → o ≡ Some c
 name_is c None h = absurd (true≢false (sym h))
 name_is c (Some d) h = ap Some (same_child_exact d c h)
@@ -123,7 +117,7 @@ child_by rows next p i c r (Some s) orderly lives up named undoomed found some =
     ap Some (sym (orderly.one_name i s.inc r s lives
     (find-lives (λ t. has_parent p t && has_name c t && not t.doomed) rows next s orderly.increasing found)
     undoomed (not-true s.doomed (second_so (has_parent p s && has_name c s) (not s.doomed) passes))
-    (up ∙ sym (parent_is p s.parent (first_so (has_parent p s) (has_name c s) two)))
+    (up ∙ sym (option_eq_some s.parent p (first_so (has_parent p s) (has_name c s) two)))
     (named ∙ sym (name_is c s.name (second_so (has_parent p s) (has_name c s) two)))))
 
 -- a row that isn't doomed is the child of its name
@@ -131,7 +125,7 @@ child_is : (rows : List Row) (next p i : ℕ) (c : ChildName) (r : Row) → IsOr
 child_is rows next p i c r orderly lives up named undoomed =
     child_by rows next p i c r (find (λ s. has_parent p s && has_name c s && not s.doomed) rows) orderly lives up named undoomed refl
     (finds_some (λ s. has_parent p s && has_name c s && not s.doomed) rows i r lives
-    (all_three (has_parent p r) (has_name c r) r.doomed
+    (and_and_not (has_parent p r) (has_name c r) r.doomed
     (ap (λ o. option_eq nat_eq o (Some p)) up ∙ (unsigned_Decides p p).1 refl)
     (ap (λ o. option_eq same_child o (Some c)) named ∙ same_node-refl (Child c)) undoomed))
 

@@ -5,6 +5,7 @@ use Rattle.std.proofs.lemmas.List.{length-append}
 use Rattle.std.proofs.lemmas.Option.{none-some}
 use Rattle.cm_names.specs.declared.child.ChildName.{ChildName}
 use Rattle.cm_names.specs.declared.moniker.Moniker.{Moniker}
+use Rattle.cm_facts.proofs.Lists.{slice_get_last}
 use Rattle.cm_decl.specs.declared.decl.Decl.{Decl}
 use Rattle.cm_decl.specs.declared.kind.Kind.{Kind}
 use Rattle.cm_decl.specs.declared.rows.Give.{Give}
@@ -140,16 +141,12 @@ names_above rows next i p m prefix orderly placed up cut =
     ap (λ x. x.parts) placed ∙ names-up rows next i orderly ∙ ap (λ o. names_to (length rows) rows o ++ option_to_list name) up in
     ap moniker_with (cut ∙ ap (λ names. take (length names - 1) names) all ∙ before_last above name (name_by rows next i p (row_of rows i) orderly refl up))
 
-seam_at : (above : List ChildName) (c : ChildName) → slice_get (above ++ c ∷ []) (length above) ≡ Some c
-seam_at [] c = refl
-seam_at (x ∷ xs) c = seam_at xs c
-
 last_by : (above : List ChildName) (o : Option ChildName) (c : ChildName) → IsSome o → slice_get (above ++ option_to_list o) (length (above ++ option_to_list o) - 1) ≡ Some c → Some c ≡ o
 last_by above None c some last = absurd (true≢false (sym some))
 last_by above (Some n) c some last =
     let long : length (above ++ n ∷ []) ≡ length above + 1 = length-append above (n ∷ []) in
     let one_less : length (above ++ n ∷ []) - 1 ≡ length above = omega arith in
-    sym last ∙ ap (slice_get (above ++ n ∷ [])) one_less ∙ seam_at above n
+    sym last ∙ ap (slice_get (above ++ n ∷ [])) one_less ∙ slice_get_last above n
 
 -- the last name of an instance that has a parent is its own
 pub last_name : (rows : List Row) (next i p : ℕ) (m : Moniker) (c : ChildName) → IsOrderly rows next → m ≡ moniker_of rows i → option_and_then (λ r. r.parent) (row_of rows i) ≡ Some p → slice_get m.parts (length m.parts - 1) ≡ Some c → Some c ≡ option_and_then (λ r. r.name) (row_of rows i)

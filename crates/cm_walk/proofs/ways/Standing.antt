@@ -1,8 +1,7 @@
 -- What stands below what in an orderly tree, and which row is the first that passes a test.
 use Rattle.std.proofs.Common.{◌≡◌, ℕ, ◌<◌, ◌≤◌, List, [], ◌∷◌, Bool, true, false, cond, ◌==◌, true≢false, Option, Some, None, is_some, IsTrue, find, length, refl, sym, ◌∙◌, ap, inl, inr, ◌⊎◌, arith}
 use Rattle.std.specs.Cmp.{unsigned_Decides}
-use Rattle.std.proofs.lemmas.Bool.{or_left, or_right}
-use Rattle.cm_decl.proofs.Sameness.{or_split}
+use Rattle.std.proofs.lemmas.Bool.{or_left, or_right, or_cases}
 use Rattle.cm_world.specs.declared.row.Row.{Row}
 use Rattle.cm_world.specs.Rows.{row_of, at_or_above, is_below}
 use Rattle.cm_world.specs.Sound.{IncarnationsIncrease, IsOrderly}
@@ -39,7 +38,7 @@ above_by rows top (Some p) h = (p, refl, h)
 -- a row below another is that one, or its parent is below it
 pub below_cases : (rows : List Row) (next top i : ℕ) (r : Row) → IsOrderly rows next → row_of rows i ≡ Some r → IsTrue (is_below rows top i) → (i ≡ top) ⊎ ((p : ℕ) × (r.parent ≡ Some p) × IsTrue (is_below rows top p))
 below_cases rows next top i r orderly lives below =
-    elim (or_split (r.inc == top) (at_or_above (length rows) (λ r. r.inc == top) rows r.parent) (sym (some_above-step (λ r. r.inc == top) rows next i r orderly lives) ∙ below)) [
+    elim (or_cases (r.inc == top) (at_or_above (length rows) (λ r. r.inc == top) rows r.parent) (sym (some_above-step (λ r. r.inc == top) rows next i r orderly lives) ∙ below)) [
       | inl here ↦ inl (sym (row_of-inc rows i r lives) ∙ (unsigned_Decides r.inc top).0 here)
       | inr above ↦ inr (above_by rows top r.parent above)
     ]

@@ -2,6 +2,8 @@
 use Rattle.std.proofs.Common.{◌≡◌, ℕ, zero, suc, ◌||◌, ◌==◌, List, Bool, true, false, true≢false, not, is_some, Option, Some, None, length, option_map, option_and_then, refl, sym, ◌∙◌, ap, ap₂}
 use Rattle.std.specs.Cmp.{unsigned_Decides}
 use Rattle.std.specs.Option.{option_map_or}
+use Rattle.cm_facts.proofs.Numbers.{eq_of_ne}
+use Rattle.cm_facts.proofs.Options.{option_map_none}
 use Rattle.cm_world.specs.declared.row.Row.{Row}
 use Rattle.cm_world.specs.declared.view.Facts.{Facts}
 use Rattle.cm_world.specs.Rows.{row_of, at_or_above, some_above, is_gone, is_closed, is_shut}
@@ -70,12 +72,8 @@ number_is rows i top f e =
 pub number_hit : (rows : List Row) (i top : ℕ) (f : Facts) → Some f ≡ option_map facts_of (row_of rows i) → i ≡ top → option_map_or (λ r. r.inc == top) (row_of rows i) false ≡ true
 number_hit rows i top f e same = sym (number_is rows i top f e) ∙ (unsigned_Decides i top).1 same
 
-missed_by : (i top : ℕ) (t : Bool) → (i == top) ≡ t → (i ≡ top → ⊥) → t ≡ false
-missed_by i top true e differ = absurd (differ ((unsigned_Decides i top).0 e))
-missed_by i top false e differ = refl
-
 pub number_missed : (rows : List Row) (i top : ℕ) (f : Facts) → Some f ≡ option_map facts_of (row_of rows i) → (i ≡ top → ⊥) → option_map_or (λ r. r.inc == top) (row_of rows i) false ≡ false
-number_missed rows i top f e differ = sym (number_is rows i top f e) ∙ missed_by i top (i == top) refl differ
+number_missed rows i top f e differ = sym (number_is rows i top f e) ∙ eq_of_ne (i == top) i top refl differ
 
 pub parent_told : (rows : List Row) (i : ℕ) (f : Facts) → Some f ≡ option_map facts_of (row_of rows i) → f.parent ≡ option_and_then (λ r. r.parent) (row_of rows i)
 parent_told rows i f e =
@@ -84,14 +82,10 @@ parent_told rows i f e =
 
 -- ---- the facts of a row, and what is above it
 
-none_told : (o : Option Row) → None ≡ option_map facts_of o → o ≡ None
-none_told None e = refl
-none_told (Some r) e = absurd (none_some (facts_of r) e)
-
 -- where a row isn't there, nothing is found
 pub no_row : (all : Bool) (p : Row → Bool) (rows : List Row) (i : ℕ) (at : Option ℕ) → all ≡ at_or_above (length rows) p rows at → at ≡ Some i → None ≡ option_map facts_of (row_of rows i) → false ≡ all
 no_row all p rows i at so_far here none =
-    sym (so_far ∙ ap (at_or_above (length rows) p rows) here ∙ nothing_above (length rows) p rows i (none_told (row_of rows i) none))
+    sym (so_far ∙ ap (at_or_above (length rows) p rows) here ∙ nothing_above (length rows) p rows i (option_map_none facts_of (row_of rows i) (sym none)))
 
 -- by what is above a row that lives, whether it is gone
 pub gone_above : (rows : List Row) (i : ℕ) (f : Facts) → Some f ≡ option_map facts_of (row_of rows i) → some_above (λ r. r.doomed) rows i ≡ is_gone rows i
@@ -100,7 +94,7 @@ gone_above rows i f e =
     sym (ap (λ o. not (is_some o) || some_above (λ r. r.doomed) rows i) t.lives)
 
 pub gone_none : (rows : List Row) (i : ℕ) → None ≡ option_map facts_of (row_of rows i) → true ≡ is_gone rows i
-gone_none rows i e = sym (ap (λ o. not (is_some o) || some_above (λ r. r.doomed) rows i) (none_told (row_of rows i) e))
+gone_none rows i e = sym (ap (λ o. not (is_some o) || some_above (λ r. r.doomed) rows i) (option_map_none facts_of (row_of rows i) (sym e)))
 
 -- by its facts, whether it is shut
 pub shut_told : (rows : List Row) (i : ℕ) (f : Facts) → Some f ≡ option_map facts_of (row_of rows i) → f.shut ≡ is_shut rows i
@@ -110,5 +104,5 @@ shut_told rows i f e =
 
 pub closed_none : (rows : List Row) (i : ℕ) → None ≡ option_map facts_of (row_of rows i) → false ≡ is_closed rows i
 closed_none rows i e =
-    let none : row_of rows i ≡ None = none_told (row_of rows i) e in
+    let none : row_of rows i ≡ None = option_map_none facts_of (row_of rows i) (sym e) in
     sym (ap₂ (λ a b. a || b) (nothing_above (length rows) (λ r. r.closing) rows i none) (ap (λ o. option_map_or (λ (r : Row). r.shut) o false) none))

@@ -4,6 +4,7 @@ use Rattle.std.proofs.Common.{◌≡◌, ℕ, zero, suc, ◌+◌, ◌<◌, ◌�
 use Rattle.std.specs.Cmp.{unsigned_Decides}
 use Rattle.std.proofs.lemmas.Bool.{lt-ltb, ltb-true, le-ltb}
 use Rattle.cm_names.specs.declared.child.ChildName.{ChildName}
+use Rattle.cm_facts.proofs.Numbers.{lt_of_lt_suc, lt_before}
 use Rattle.cm_world.specs.declared.row.Row.{Row}
 use Rattle.cm_world.specs.Rows.{row_of, at_or_above, some_above, names_to, line_from, line_of}
 use Rattle.cm_world.specs.Sound.{IsOrderly, IsParent}
@@ -90,9 +91,6 @@ parent_rank rows next i p r orderly lives below =
     let parent : IsParent rows p i = (orderly.parents i p r lives below).0 in
     rank-less rows p i parent.row parent.lower parent.lives
 
-pub fewer : (m n k : ℕ) → m < n → n < suc k → m < k
-fewer m n k low high = omega arith
-
 -- ---- what is made of a row and those above it
 
 -- of the rows from one up, at most n of them: z of none, and step of a row, its incarnation and what is made of those above it
@@ -122,14 +120,11 @@ up_enough z step (suc n) zero rows next i orderly low high = absurd (omega arith
 up_enough z step (suc n) (suc m) rows next i orderly low high =
     up_row z step n m rows i (row_of rows i) refl
     (λ r p lives below. let less : rank rows p < rank rows i = parent_rank rows next i p r orderly lives below in
-    up_enough z step n m rows next p orderly (fewer (rank rows p) (rank rows i) n less low) (fewer (rank rows p) (rank rows i) m less high))
+    up_enough z step n m rows next p orderly (lt_of_lt_suc (rank rows p) (rank rows i) n less low) (lt_of_lt_suc (rank rows p) (rank rows i) m less high))
 
 size_by : (n : ℕ) (rows : List Row) (i : ℕ) (r : Row) → row_of rows i ≡ Some r → length rows ≡ n → (m : ℕ) × (length rows ≡ suc m)
 size_by zero rows i r lives e = let within : rank rows i < length rows = rank-within rows i r lives in absurd (omega arith)
 size_by (suc m) rows i r lives e = (m, e)
-
-before : (a b n m : ℕ) → a < b → b < n → n ≡ suc m → a < m
-before a b n m low high e = omega arith
 
 -- what is made of a row is its step of what is made of its parent
 up_step : {A : Type 0} (z : A) (step : ℕ → Row → A → A) (rows : List Row) (next i : ℕ) (r : Row) → IsOrderly rows next → row_of rows i ≡ Some r → up_from z step (length rows) rows (Some i) ≡ step i r (up_from z step (length rows) rows r.parent)
@@ -139,7 +134,7 @@ up_step {A} z step rows next i r orderly lives =
     let within : rank rows i < length rows = rank-within rows i r lives in
     let above : up_from z step size.0 rows r.parent ≡ up_from z step (length rows) rows r.parent = up_parent z step size.0 (length rows) rows r r.parent refl
     (λ p below. let less : rank rows p < rank rows i = parent_rank rows next i p r orderly lives below in
-    up_enough z step size.0 (length rows) rows next p orderly (before (rank rows p) (rank rows i) (length rows) size.0 less within size.1) (lt_trans less within)) in
+    up_enough z step size.0 (length rows) rows next p orderly (lt_before (rank rows p) (rank rows i) (length rows) size.0 less within size.1) (lt_trans less within)) in
     ap (λ n. up_from z step n rows (Some i)) size.1 ∙ ap (λ o. elim o as (λ _. A) [ None ↦ z | Some q ↦ step i q (up_from z step size.0 rows q.parent) ]) lives ∙ ap (step i r) above
 
 -- ---- tests, names and lines

@@ -3,11 +3,12 @@ use Rattle.std.proofs.Common.{◌≡◌, ◌≢◌, ℕ, List, [], ◌∷◌, Bo
 use Rattle.std.specs.List.{list_any, list_all}
 use Rattle.std.specs.Option.{option_map_or}
 use Rattle.std.specs.Cmp.{unsigned_Decides, first_so, second_so}
-use Rattle.std.proofs.lemmas.Bool.{or_parts}
+use Rattle.std.proofs.lemmas.Bool.{or_parts, or_cases}
+use Rattle.cm_facts.proofs.Booleans.{not_both}
+use Rattle.cm_facts.proofs.Options.{is_some_true}
 use Rattle.cm_decl.specs.declared.decl.Decl.{Decl}
 use Rattle.cm_decl.specs.Graph.{own_sources}
 use Rattle.cm_decl.specs.Reach.{DependencyPath}
-use Rattle.cm_decl.proofs.Sameness.{or_split}
 use Rattle.cm_world.specs.declared.row.Row.{Row}
 use Rattle.cm_world.specs.Rows.{row_of, decl_of, has_parent, is_live}
 use Rattle.cm_world.specs.Level.{is_child_row, is_level_node, level_edge, level_sources, is_from_row, LevelStrong}
@@ -70,25 +71,17 @@ own_level rows p d found none z same = rw (found, level_sources) (rw same none)
 
 -- ---- freedom of a child that no row depends on
 
-not_both : (a : Bool) → IsTrue a → IsTrue (not a) → ⊥
-not_both true h g = true≢false (sym g)
-not_both false h g = true≢false (sym h)
-
 live_by : (p : ℕ) (o : Option Row) → IsTrue (option_map_or (has_parent p) o false) → (r : Row) × (o ≡ Some r)
 live_by p None h = absurd (true≢false (sym h))
 live_by p (Some r) h = (r, refl)
 
-some_by : (o : Option Row) → IsTrue (is_some o) → (r : Row) × (o ≡ Some r)
-some_by None h = absurd (true≢false (sym h))
-some_by (Some r) h = (r, refl)
-
 -- a node is a row that lives
 pub node_row : (rows : List Row) (p z : ℕ) → IsTrue (is_level_node rows p z) → (r : Row) × (row_of rows z ≡ Some r)
 node_row rows p z h =
-    elim (or_split (z == p && is_live rows p) (is_child_row rows p z) h) as (λ _. (r : Row) × (row_of rows z ≡ Some r)) [
+    elim (or_cases (z == p && is_live rows p) (is_child_row rows p z) h) as (λ _. (r : Row) × (row_of rows z ≡ Some r)) [
       | inl own ↦
           let same : z ≡ p = (unsigned_Decides z p).0 (first_so (z == p) (is_live rows p) own) in
-          some_by (row_of rows z) (subst (λ i. IsTrue (is_some (row_of rows i))) (sym same) (second_so (z == p) (is_live rows p) own))
+          is_some_true (row_of rows z) (subst (λ i. IsTrue (is_some (row_of rows i))) (sym same) (second_so (z == p) (is_live rows p) own))
       | inr child ↦ live_by p (row_of rows z) child
     ]
 

@@ -1,10 +1,11 @@
 -- Each walk ends: it goes up, to rows with lower incarnations, and then down, to rows with higher ones.
-use Rattle.std.proofs.Common.{◌≡◌, ℕ, zero, suc, ◌+◌, ◌<◌, List, [], ◌∷◌, ◌++◌, Bool, true, false, cond, not, ◌&&◌, ◌==◌, nat_eq, true≢false, Option, Some, None, IsTrue, find, option_map, option_and_then, refl, sym, ◌∙◌, ap, subst, arith}
+use Rattle.std.proofs.Common.{◌≡◌, ℕ, zero, suc, ◌+◌, ◌<◌, List, [], ◌∷◌, ◌++◌, Bool, true, false, cond, not, ◌&&◌, ◌==◌, true≢false, Option, Some, None, IsTrue, find, option_map, option_and_then, refl, sym, ◌∙◌, ap, subst, arith}
 use Rattle.std.specs.List.{list_all}
-use Rattle.std.specs.Option.{option_eq}
 use Rattle.std.specs.Cmp.{unsigned_Decides, first_so, second_so}
 use Rattle.std.proofs.Math.Bool.{and-false}
 use Rattle.cm_names.specs.declared.child.ChildName.{ChildName}
+use Rattle.cm_facts.proofs.Numbers.{eq_of_lt, lt_of_lt_suc as fewer}
+use Rattle.cm_facts.proofs.Options.{option_eq_some}
 use Rattle.cm_decl.specs.declared.kind.Kind.{Kind}
 use Rattle.cm_decl.specs.declared.decl.Decl.{Decl}
 use Rattle.cm_decl.specs.declared.rows.Give.{Give}
@@ -31,7 +32,6 @@ use Rattle.cm_world.specs.Sound.{IncarnationsIncrease, IsOrderly}
 use Rattle.cm_world.specs.Ending.{is_expose, left_at, left_from, steps_left, is_from_parent, KeepsDown, BeginsDown, StepsFall, WalksEnd}
 use Rattle.cm_world.proofs.trees.Finding.{some_same, none_some, find-passes, find-all}
 use Rattle.cm_world.proofs.trees.Chains.{same_station}
-use Rattle.cm_world.proofs.trees.Climbing.{fewer}
 
 -- ---- rows that rise
 
@@ -44,11 +44,6 @@ pub below_next : (rows : List Row) (next i : ℕ) (r : Row) → IncarnationsIncr
 below_next [] next i r increasing e = absurd (none_some r e)
 below_next (s ∷ ss) next i r increasing e = below_by (s.inc == i) next i s r (row_of ss i) refl increasing.0.0 (below_next ss next i r increasing.1) e
 
-apart : (t : Bool) (n m : ℕ) → (n == m) ≡ t → n < m → t ≡ false
-apart true n m same low =
-    let e : n ≡ m = (unsigned_Decides n m).0 same in absurd (omega arith)
-apart false n m same low = refl
-
 lives_by : (t : Bool) (q : Row → Bool) (next : ℕ) (s r : Row) (ss : List Row) → IncarnationsIncrease next (s ∷ ss) → (find q ss ≡ Some r → row_of ss r.inc ≡ Some r) → cond t (Some s) (find q ss) ≡ Some r → row_of (s ∷ ss) r.inc ≡ Some r
 lives_by true q next s r ss increasing later e =
     let same : s ≡ r = some_same s r e in
@@ -56,7 +51,7 @@ lives_by true q next s r ss increasing later e =
 lives_by false q next s r ss increasing later e =
     let lives : row_of ss r.inc ≡ Some r = later e in
     let low : s.inc < r.inc = increasing.0.1 r.inc (rw lives refl) in
-    rw (apart (s.inc == r.inc) s.inc r.inc refl low) lives
+    rw (eq_of_lt (s.inc == r.inc) s.inc r.inc refl low) lives
 
 -- a row that is found by any test is the row of its incarnation
 pub find-lives : (q : Row → Bool) (rows : List Row) (next : ℕ) (r : Row) → IncarnationsIncrease next rows → find q rows ≡ Some r → row_of rows r.inc ≡ Some r
@@ -67,10 +62,6 @@ found_child : (rows : List Row) (p j : ℕ) (c : ChildName) (o : Option Row) →
 found_child rows p j c None f e = absurd (none_some j e)
 found_child rows p j c (Some r) f e = (r, f, some_same r.inc j e)
 
-pub parent_is : (p : ℕ) (o : Option ℕ) → IsTrue (option_eq nat_eq o (Some p)) → o ≡ Some p
-parent_is p None h = absurd (true≢false (sym h))
-parent_is p (Some q) h = ap Some ((unsigned_Decides q p).0 h)
-
 -- a child that is found lives, and has the row as its parent
 pub child_lives : (rows : List Row) (next p j : ℕ) (c : ChildName) → IncarnationsIncrease next rows → child_of rows p c ≡ Some j → (r : Row) × (row_of rows j ≡ Some r) × (r.parent ≡ Some p)
 child_lives rows next p j c increasing e =
@@ -80,7 +71,7 @@ child_lives rows next p j c increasing e =
     let lives : row_of rows found.0.inc ≡ Some found.0 = find-lives test rows next found.0 increasing found.1 in (
       found.0,
       subst (λ i. row_of rows i ≡ Some found.0) found.2 lives,
-      parent_is p found.0.parent (first_so (has_parent p found.0) (has_name c found.0) (first_so (has_parent p found.0 && has_name c found.0) (not found.0.doomed) passes)),
+      option_eq_some found.0.parent p (first_so (has_parent p found.0) (has_name c found.0) (first_so (has_parent p found.0 && has_name c found.0) (not found.0.doomed) passes)),
     )
 
 -- ---- exposes

@@ -1,6 +1,7 @@
 use Rattle.std.proofs.Common.{true≢false, sym, ◌∙◌}
+use Rattle.cm_facts.proofs.Booleans.{false_iff}
 use Rattle.cm_order.proofs.trees.Trees.{kid_higher}
-use Rattle.cm_order.proofs.searches.Choosing.{never_so, own_leads, way_first, goes_further, no_end, way_further, next_leads}
+use Rattle.cm_order.proofs.searches.Choosing.{own_leads, way_first, goes_further, no_end, way_further, next_leads}
 use Rattle.cm_order.proofs.choosing.is_free_up_to.Goals as goal
 
 pub leads_up-requires-clause-kid : goal.leads_up-requires-clause-kid
@@ -9,7 +10,7 @@ leads_up-requires-clause-kid g c =
 
 pub returns-then-not-branch-clause-free : goal.returns-then-not-branch-clause-free
 returns-then-not-branch-clause-free g c =
-    never_so (λ free. true≢false (sym (c.in_ok-leads_own.ensures.leads.1 (own_leads (g.V.View.rows c.args.view.now) (g.V.View.next_inc c.args.view.now) c.requires.sound.orderly c.args.top c.args.inc c.requires.below c.requires.idle free)) ∙ c.if-not-branch.true))
+    false_iff (λ free. true≢false (sym (c.in_ok-leads_own.ensures.leads.1 (own_leads (g.V.View.rows c.args.view.now) (g.V.View.next_inc c.args.view.now) c.requires.sound.orderly c.args.top c.args.inc c.requires.below c.requires.idle free)) ∙ c.if-not-branch.true))
 
 pub up-init : goal.up-init
 up-init g c = (
@@ -24,7 +25,7 @@ unreachable-requires g c = no_end (g.V.View.rows c.args.view.now) (g.V.View.next
 pub returns-then-not-branch-2-clause-free : goal.returns-then-not-branch-2-clause-free
 returns-then-not-branch-2-clause-free g c =
     let more = goes_further (g.V.View.rows c.args.view.now) (g.V.View.next_inc c.args.view.now) c.requires.sound.orderly c.args.top c.args.inc c.up.here c.in-Some.parent c.up.invariant.0 c.up-test.true (sym c.in-Some.is ∙ c.parent_of.ensures) in
-    never_so (λ free. true≢false (sym (c.in_ok-leads_up.ensures.leads.1 (next_leads (g.V.View.rows c.args.view.now) (g.V.View.next_inc c.args.view.now) c.requires.sound.orderly c.args.top c.args.inc c.up.here c.in-Some.parent c.requires.idle c.up.invariant.0 more free)) ∙ c.if-not-branch-2.true))
+    false_iff (λ free. true≢false (sym (c.in_ok-leads_up.ensures.leads.1 (next_leads (g.V.View.rows c.args.view.now) (g.V.View.next_inc c.args.view.now) c.requires.sound.orderly c.args.top c.args.inc c.up.here c.in-Some.parent c.requires.idle c.up.invariant.0 more free)) ∙ c.if-not-branch-2.true))
 
 pub up-smaller : goal.up-smaller
 up-smaller g c =

@@ -1,7 +1,7 @@
 use Rattle.std.proofs.Common.{refl, sym, ◌∙◌, inr}
+use Rattle.cm_facts.proofs.Booleans.{false_iff}
 use Rattle.cm_order.proofs.levels.Gathering.{kid_shut}
 use Rattle.cm_order.proofs.levels.Owning.{kid_gone}
-use Rattle.cm_order.proofs.searches.Choosing.{never_so}
 use Rattle.cm_order.proofs.leading.leads_up.Goals as goal
 
 pub returns-then-branch-clause-leads : goal.returns-then-branch-clause-leads
@@ -20,4 +20,4 @@ pub leads_at-requires-clause-node : goal.leads_at-requires-clause-node
 leads_at-requires-clause-node g c = inr c.requires.kid
 
 pub returns-then-is_bound-clause-leads : goal.returns-then-is_bound-clause-leads
-returns-then-is_bound-clause-leads g c = never_so (c.is_bound.ensures c.if-is_bound.true)
+returns-then-is_bound-clause-leads g c = false_iff (c.is_bound.ensures c.if-is_bound.true)

@@ -1,6 +1,7 @@
 use Rattle.std.proofs.Common.{◌≡◌, [], ◌∷◌, ◌++◌, true, false, refl, rules}
+use Rattle.cm_facts.proofs.Booleans.{and_false}
 use Rattle.cm_plain.specs.Plain.{PassesPieces}
-use Rattle.cm_plain.proofs.PieceLemmas.{not_both, passes_then}
+use Rattle.cm_plain.proofs.PieceLemmas.{passes_then}
 use Rattle.cm_plain.proofs.PlainLemmas.{value_of_string, value_of_members, value_of_items, member_added}
 use Rattle.cm_plain.proofs.PlainLemmas.{first_item, next_item, items_end, no_items_end}
 use Rattle.cm_plain.proofs.PlainLemmas.{first_member, next_member, members_end, no_members_end}
@@ -18,7 +19,7 @@ read_value-returns-in-Some-behind_mark-clause-value t c = search (rules, value_o
 pub read_value-returns-in-Some-behind_mark-clause-passed : goal.read_value-returns-in-Some-behind_mark-clause-passed
 read_value-returns-in-Some-behind_mark-clause-passed t c = λ b.
     passes_then b false false c.args.text.now c.in-Some-behind_mark.inside.now c.in_ok-members.rest.now
-    (c.in-Some-behind_mark.ensures.passed b (not_both b)) c.in_ok-members.ensures.passed
+    (c.in-Some-behind_mark.ensures.passed b (and_false b)) c.in_ok-members.ensures.passed
 
 pub read_value-returns-clause-value : goal.read_value-returns-clause-value
 read_value-returns-clause-value t c = search (rules, value_of_items)
@@ -26,7 +27,7 @@ read_value-returns-clause-value t c = search (rules, value_of_items)
 pub read_value-returns-clause-passed : goal.read_value-returns-clause-passed
 read_value-returns-clause-passed t c = λ b.
     passes_then b false false c.args.text.now c.in_ok-inside.inside.now c.in_ok-items.rest.now
-    (c.in_ok-inside.ensures.passed b (not_both b)) c.in_ok-items.ensures.passed
+    (c.in_ok-inside.ensures.passed b (and_false b)) c.in_ok-items.ensures.passed
 
 pub read_item-returns-clause-passed : goal.read_item-returns-clause-passed
 read_item-returns-clause-passed t c = c.in_ok-item.ensures.passed

@@ -1,9 +1,9 @@
 use Rattle.std.proofs.Common.{◌++◌, ◌∷◌, [], ◌<◌, Some, cond, length, refl, ◌+◌, ◌∙◌, ap, arith}
 use Rattle.std.specs.BTreeMap.{get}
+use Rattle.cm_facts.proofs.Options.{option_map_none}
 use Rattle.cm_decl.specs.Graph.{static_name}
 use Rattle.cm_decl.specs.Same.{same_child}
 use Rattle.cm_table.specs.Names.{child_cmp}
-use Rattle.cm_table.proofs.tree.Adding.{none_mapped}
 use Rattle.cm_table.proofs.indexes.Preparing.{no_kids, kids_more, names_more}
 use Rattle.cm_table.proofs.prepared.index_of.Goals as goal
 
@@ -12,7 +12,7 @@ loop-child-init c = record {
   same = c.as_slice-children.ensures;
   next = refl;
   kids = no_kids c.new-index.result.base c.new-index.result.kids.items c.new-index.ensures.kids;
-  names = λ n. none_mapped (λ k. c.new-index.result.base + k) (get child_cmp c.new-index.result.names n) (c.new-index.ensures.names n);
+  names = λ n. option_map_none (λ k. c.new-index.result.base + k) (get child_cmp c.new-index.result.names n) (c.new-index.ensures.names n);
 }
 
 pub loop-child-preserved : goal.loop-child-preserved

@@ -1,7 +1,8 @@
 use Rattle.std.proofs.Common.{◌≡◌, ◌++◌, ◌∷◌, [], true, None, Ok, is_some, sym, ap, subst, ◌∙◌, rules, inl}
+use Rattle.cm_facts.proofs.Options.{is_some_false}
 use Rattle.cm_repo.specs.Blocks.{blocks_of, block_at}
 use Rattle.cm_repo.specs.BlocksInside.{FindsAlso}
-use Rattle.cm_repo.proofs.BlockLemmas.{is_some-block_at, none_from, blocks_of-insert, added-repeated, added-new, FindsAlso-push}
+use Rattle.cm_repo.proofs.BlockLemmas.{is_some-block_at, blocks_of-insert, added-repeated, added-new, FindsAlso-push}
 use Rattle.cm_repo.proofs.repository.Repository.add.Goals as goal
 
 pub returns-then-contains_key-clause-refused : goal.returns-then-contains_key-clause-refused
@@ -14,7 +15,7 @@ pub returns : goal.returns
 returns c =
     let key = c.in_ok-key.key in
     let absent : block_at c.args.self.now key ≡ None =
-    none_from _ (is_some-block_at c.self.inside.blocks.entries _ _ c.contains_key.result c.self.view_is c.as_str.ensures c.contains_key.ensures ∙ c.if-contains_key.false) in
+    is_some_false _ (is_some-block_at c.self.inside.blocks.entries _ _ c.contains_key.result c.self.view_is c.as_str.ensures c.contains_key.ensures ∙ c.if-contains_key.false) in
     let grown : blocks_of c.insert.new.self.entries ≡ c.args.self.now ++ (key, c.args.bytes) ∷ [] =
     blocks_of-insert c.self.inside.blocks c.insert.new.self c.in_ok-text.text c.args.bytes key _ c.self.view_is c.in_ok-text.ensures.ok absent c.in_ok-insert.ensures.entries in
     record {
