@@ -26,19 +26,19 @@ lines_size (b ∷ bs) = by (b == 10) (lines_size bs) (in_prefix_size b (lines_of
     by false ih more = grind (arith, rules)
 
 -- the second lines go on where the first end
-abbrev Goes : List TextBytes → List TextBytes → Type 0
+abbrev pub Goes : List TextBytes → List TextBytes → Type 0
 Goes [] us = Unit {0}
 Goes (t ∷ ts) [] = ⊥
 Goes (t ∷ ts) (u ∷ us) = ((t ≡ u) × Goes ts us) ⊎ ((ts ≡ []) × (length t ≤ length u))
 
-in_prefix_goes : (b : ℕ) (ts us : List TextBytes) → Goes ts us → Goes (in_prefix b ts) (in_prefix b us)
+pub in_prefix_goes : (b : ℕ) (ts us : List TextBytes) → Goes ts us → Goes (in_prefix b ts) (in_prefix b us)
 in_prefix_goes b [] [] h = inl (refl, tt)
 in_prefix_goes b [] (u ∷ us) h = inr (refl, grind (arith, rules))
 in_prefix_goes b (t ∷ ts) [] h = absurd h
 in_prefix_goes b (t ∷ ts) (u ∷ us) (inl e) = inl (ap (λ x. b ∷ x) e.0, e.1)
 in_prefix_goes b (t ∷ ts) (u ∷ us) (inr e) = inr (e.0, let le : length t ≤ length u = e.1 in grind (arith, rules))
 
-lines_go : (prefix rest : TextBytes) → Goes (lines_of prefix) (lines_of (prefix ++ rest))
+pub lines_go : (prefix rest : TextBytes) → Goes (lines_of prefix) (lines_of (prefix ++ rest))
 lines_go [] rest = tt
 lines_go (b ∷ bs) rest = by (b == 10) (lines_go bs rest)
   where

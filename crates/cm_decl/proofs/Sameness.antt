@@ -19,7 +19,7 @@ pub same_node-refl : (x : Node) → IsTrue (same_node x x)
 same_node-refl Own = refl
 same_node-refl (Child n) = same_parts n.coll n.name
 
-named : Option (List ℕ) → List ℕ → ChildName
+unfoldable pub named : Option (List ℕ) → List ℕ → ChildName
 named coll name = record { coll = coll; name = name }
 
 parts_same : (c d : Option (List ℕ)) (m n : List ℕ) → IsTrue (option_eq bytes_eq c d && bytes_eq m n) → named c m ≡ named d n

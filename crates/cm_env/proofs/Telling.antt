@@ -1,5 +1,5 @@
 -- The report, row by row.
-use Rattle.std.proofs.Common.{◌≡◌, ℕ, zero, suc, ◌+◌, ◌<◌, take, get_or, subst, List, [], ◌∷◌, ◌++◌, option_and_then, true≢false, true, false, cond, Option, Some, None, is_some, length, reverse, refl, sym, ◌∙◌, ap, append_assoc, append-nil, flat_map}
+use Rattle.std.proofs.Common.{◌≡◌, ℕ, zero, suc, ◌+◌, ◌<◌, take, get_or, subst, List, [], ◌∷◌, ◌++◌, true, false, cond, Option, Some, None, is_some, length, reverse, refl, sym, ◌∙◌, ap, append_assoc, append-nil, flat_map}
 use Rattle.std.specs.Prelude.{All}
 use Rattle.std.proofs.lemmas.List.Concat.{flat_map-append}
 use Rattle.std.proofs.lemmas.List.Elements.{All-pop, All-push}
@@ -8,7 +8,6 @@ use Rattle.cm_decl.specs.declared.decl.Decl.{Decl}
 use Rattle.cm_world.specs.declared.row.Row.{Row}
 use Rattle.cm_world.specs.Rows.{row_of, decl_of, has_parent, has_doomed, is_resolved}
 use Rattle.cm_world.specs.Sound.{IsOrderly, IsParent}
-use Rattle.cm_world.proofs.trees.Finding.{none_some}
 use Rattle.cm_reply.specs.Lists.{when_some}
 use Rattle.cm_env.specs.declared.reach.Looker.{Looker}
 use Rattle.cm_env.specs.Report.{lines_by, lines_of, env_report}
@@ -16,6 +15,7 @@ use Rattle.cm_env.specs.ReportInside.{own_lines}
 use Rattle.cm_env.specs.Rows.{children_of, told_itself, told_below, told_from}
 use Rattle.cm_env.specs.Reach.{LooksThere, incs}
 use Rattle.cm_env.proofs.Visiting.{Each, down, ahead_text, popped, each_kid, all_live, kid_parent}
+use Rattle.cm_env.proofs.Steps.{unresolved_by}
 
 -- ---- one row
 
@@ -36,10 +36,6 @@ no_each : (xs : List ℕ) → Each (λ j. ⊥) xs → xs ≡ []
 no_each [] each = refl
 no_each (x ∷ xs) each = absurd each.0
 
-unresolved : (rows : List Row) (i : ℕ) (r : Row) (o : Option Decl) → row_of rows i ≡ Some r → r.decl ≡ o → is_some o ≡ true → decl_of rows i ≡ None → ⊥
-unresolved rows i r None here own some none = true≢false (sym some)
-unresolved rows i r (Some d) here own some none = none_some d (sym none ∙ ap (option_and_then (λ (x : Row). x.decl)) here ∙ own)
-
 -- an unresolved row has no children
 pub no_children : (rows : List Row) (next i : ℕ) → IsOrderly rows next → None ≡ decl_of rows i → children_of rows i ≡ []
 no_children rows next i orderly none =
@@ -47,7 +43,7 @@ no_children rows next i orderly none =
     (each_kid (has_parent i) (λ r. row_of rows r.inc ≡ Some r) (λ j. ⊥) rows
     (λ r lives below.
     let parent : IsParent rows i r.inc = kid_parent rows next i r orderly lives below in
-    unresolved rows i parent.row parent.row.decl parent.lives refl parent.resolved (sym none))
+    unresolved_by rows i parent.row parent.row.decl parent.lives refl parent.resolved (sym (sym none)))
     (all_live rows next orderly.increasing))
 
 -- ---- all rows

@@ -8,7 +8,7 @@ use Rattle.cm_io.proofs.Ordering.{joined-more}
 
 -- ---- how many lines end
 
-ends-append : (xs ys : List ℕ) → ends_in (xs ++ ys) ≡ ends_in xs + ends_in ys
+pub ends-append : (xs ys : List ℕ) → ends_in (xs ++ ys) ≡ ends_in xs + ends_in ys
 ends-append [] ys = omega arith
 ends-append (x ∷ xs) ys = by (nat_eq x 10) (ends-append xs ys)
   where
@@ -17,40 +17,40 @@ ends-append (x ∷ xs) ys = by (nat_eq x 10) (ends-append xs ys)
     by true ih = omega (arith, ih)
     by false ih = ih
 
-ends-other : (byte : ℕ) (bytes : List ℕ) → byte ≢ 10 → ends_in (byte ∷ bytes) ≡ ends_in bytes
+pub ends-other : (byte : ℕ) (bytes : List ℕ) → byte ≢ 10 → ends_in (byte ∷ bytes) ≡ ends_in bytes
 ends-other byte bytes h = grind (arith, nat_tests)
 
-unbroken-ends : (bytes : List ℕ) → IsUnbroken bytes → ends_in bytes ≡ 0
+pub unbroken-ends : (bytes : List ℕ) → IsUnbroken bytes → ends_in bytes ≡ 0
 unbroken-ends [] h = refl
 unbroken-ends (byte ∷ bytes) h = ends-other byte bytes (h 0 0 (omega arith)) ∙ unbroken-ends bytes (λ k d lt. h (suc k) d (omega arith))
 
 -- ---- moves one behind another
 
-given-append : (xs ys : List Move) → given_in (xs ++ ys) ≡ given_in xs ++ given_in ys
+pub given-append : (xs ys : List Move) → given_in (xs ++ ys) ≡ given_in xs ++ given_in ys
 given-append [] ys = refl
 given-append (gave piece ∷ xs) ys = ap (λ (l : List ℕ). piece ++ l) (given-append xs ys) ∙ sym (append_assoc piece (given_in xs) (given_in ys))
 given-append (wrote bytes ∷ xs) ys = given-append xs ys
 given-append (hung_up ∷ xs) ys = given-append xs ys
 
-written-append : (xs ys : List Move) → written_in (xs ++ ys) ≡ written_in xs ++ written_in ys
+pub written-append : (xs ys : List Move) → written_in (xs ++ ys) ≡ written_in xs ++ written_in ys
 written-append [] ys = refl
 written-append (gave piece ∷ xs) ys = written-append xs ys
 written-append (wrote bytes ∷ xs) ys = ap (λ (l : List ℕ). bytes ++ l) (written-append xs ys) ∙ sym (append_assoc bytes (written_in xs) (written_in ys))
 written-append (hung_up ∷ xs) ys = written-append xs ys
 
-given-gave : (pieces : List (List ℕ)) → given_in (map gave pieces) ≡ joined pieces
+pub given-gave : (pieces : List (List ℕ)) → given_in (map gave pieces) ≡ joined pieces
 given-gave [] = refl
 given-gave (p ∷ pieces) = ap (λ (l : List ℕ). p ++ l) (given-gave pieces)
 
-given-wrote : (pieces : List (List ℕ)) → given_in (map wrote pieces) ≡ []
+pub given-wrote : (pieces : List (List ℕ)) → given_in (map wrote pieces) ≡ []
 given-wrote [] = refl
 given-wrote (p ∷ pieces) = given-wrote pieces
 
-written-gave : (pieces : List (List ℕ)) → written_in (map gave pieces) ≡ []
+pub written-gave : (pieces : List (List ℕ)) → written_in (map gave pieces) ≡ []
 written-gave [] = refl
 written-gave (p ∷ pieces) = written-gave pieces
 
-written-wrote : (pieces : List (List ℕ)) → written_in (map wrote pieces) ≡ joined pieces
+pub written-wrote : (pieces : List (List ℕ)) → written_in (map wrote pieces) ≡ joined pieces
 written-wrote [] = refl
 written-wrote (p ∷ pieces) = ap (λ (l : List ℕ). p ++ l) (written-wrote pieces)
 
@@ -61,7 +61,7 @@ pub answered-none : AnsweredInOrder [] [] []
 answered-none = record { in_step = InStep.begun; written = refl; lines = refl }
 
 -- pieces that are read while no line ends in what is there
-reads-in_step : (replies : List (List ℕ)) (moves : List Move) (taken : List ℕ) (pieces : List (List ℕ)) → InStep replies moves → written_in moves ≡ joined replies
+pub reads-in_step : (replies : List (List ℕ)) (moves : List Move) (taken : List ℕ) (pieces : List (List ℕ)) → InStep replies moves → written_in moves ≡ joined replies
     → ends_in (given_in moves) ≡ length replies + ends_in taken → ReadsUnbroken taken pieces → InStep replies (moves ++ map gave pieces)
 reads-in_step replies moves taken [] s w l r = subst (InStep replies) (sym (append-nil moves)) s
 reads-in_step replies moves taken (p ∷ pieces) s w l r =
@@ -76,7 +76,7 @@ reads-in_step replies moves taken (p ∷ pieces) s w l r =
     (reads-in_step replies (moves ++ gave p ∷ []) (taken ++ p) pieces (InStep.read_on p s w here) written lines r.1)
 
 -- pieces of a reply that are written
-writes-in_step : (replies : List (List ℕ)) (moves : List Move) (pieces : List (List ℕ)) → InStep replies moves → InStep replies (moves ++ map wrote pieces)
+pub writes-in_step : (replies : List (List ℕ)) (moves : List Move) (pieces : List (List ℕ)) → InStep replies moves → InStep replies (moves ++ map wrote pieces)
 writes-in_step replies moves [] s = subst (InStep replies) (sym (append-nil moves)) s
 writes-in_step replies moves (p ∷ pieces) s =
     subst (InStep replies) (append_assoc moves (wrote p ∷ []) (map wrote pieces)) (writes-in_step replies (moves ++ wrote p ∷ []) pieces (InStep.wrote_on p s))

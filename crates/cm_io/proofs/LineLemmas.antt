@@ -100,10 +100,10 @@ pub lines-nil : lines [] ≡ []
 unfolding lines
 lines-nil = refl
 
-unbroken-tail : (byte : ℕ) (bytes : List ℕ) → IsUnbroken (byte ∷ bytes) → IsUnbroken bytes
+pub unbroken-tail : (byte : ℕ) (bytes : List ℕ) → IsUnbroken (byte ∷ bytes) → IsUnbroken bytes
 unbroken-tail byte bytes h = λ k d lt. h (suc k) d (omega arith)
 
-unbroken-head : (byte : ℕ) (bytes : List ℕ) → IsUnbroken (byte ∷ bytes) → byte ≢ 10
+pub unbroken-head : (byte : ℕ) (bytes : List ℕ) → IsUnbroken (byte ∷ bytes) → byte ≢ 10
 unbroken-head byte bytes h = h 0 0 (omega arith)
 
 -- an ended line is the first line

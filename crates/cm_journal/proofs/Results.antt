@@ -40,13 +40,12 @@ use Rattle.cm_manager.specs.Streams.{Streams, streamed_by}
 use Rattle.cm_manager.specs.Calls.{CallWay, Finding, GoesOnWithRow, OnRow, CallsEvent, Nothing, Then, CallsEventThen, OnceCreated, SweptLeft, CallsAction, Calls}
 use Rattle.cm_lanes.specs.Script.{AnsweredLine, answers_of, PerformsLines, rests, performs, ArePhases, none_left, one_first}
 use Rattle.cm_journal.specs.Said.{IsLegibleRefusal, IsLegibleFound, IsLegibleChecked, IsLegibleAnswer, IsLegibleResult, OfReplies, AreOfLanes, AreLegibleAnswers, ResultsAreLegible}
-use Rattle.cm_journal.proofs.Growing.{Growing, Following, behind_grows, then_grows, calls_grow, acted_grows, tried_grows, tried_then_grows, created_grows, left_grows, doctors_grow, streams_grow, each_grows, row_grows, tries_grow}
 use Rattle.cm_manager.proofs.shutdowns.ShuttingDown.{shuts_close, destroys_close}
-use Rattle.cm_manager.proofs.calling.Joining.{starts-trans}
-use Rattle.cm_manager.proofs.calling.Keeping.{starts_same}
 use Rattle.cm_legible.specs.Tellable.{IsNamedReply}
 use Rattle.cm_legible.proofs.Replies.{legible_reply}
 use Rattle.cm_journal.proofs.Streamed.{stream_is}
+use Rattle.cm_turn.proofs.Histories.{starts-refl, starts-trans}
+use Rattle.cm_lanes.proofs.lines.Parting.{Growing, Following, tries_grow, behind_grows, tried_grows, created_grows, left_grows, then_grows, tried_then_grows, acted_grows, each_grows, row_grows, doctors_grow, streams_grow, calls_grow}
 
 abbrev OfReply : Entry → Type 0
 OfReply e = IsNamedReply e.reply
@@ -427,7 +426,7 @@ module _ (f : Frame) (c : ℕ) where
 
   follows_grow : {xs : List AnsweredLine} {a b : List Entry} → PerformsLines f c xs a b → StartsWith b a
   follows_grow (rests l) = l.grows
-  follows_grow (performs {a = x} call rest) = starts-trans _ _ _ (calls_grow f c x.line.command _ _ _ call) (follows_grow rest)
+  follows_grow (performs {a = x} call rest) = starts-trans _ _ _ (follows_grow rest) (calls_grow f c x.line.command _ _ _ call)
 
   follows : {xs : List AnsweredLine} {a b : List Entry} → PerformsLines f c xs a b → OfReplies b → All OfAnswer xs
   follows (rests l) h = All-nil OfAnswer
@@ -451,8 +450,8 @@ module _ (P : AnsweredLine → Type 0) where
       (by_lanes xs (All-tail (λ (a : AnsweredLine). a.line.lane < 16) a xs few) (λ c lt. other_of (a.line.lane == c) c a xs refl (each c lt)))
 
 phases_grow : (f : Frame) {answered : List (List AnsweredLine)} {a b : List Entry} → ArePhases (λ c. f) answered a b → StartsWith b a
-phases_grow f none_left = starts_same _
-phases_grow f (one_first phase rest) = starts-trans _ _ _ phase.grows (phases_grow f rest)
+phases_grow f none_left = starts-refl _
+phases_grow f (one_first phase rest) = starts-trans _ _ _ (phases_grow f rest) phase.grows
 
 abbrev AllOf : List AnsweredLine → Type 0
 AllOf xs = All (λ (a : AnsweredLine). IsLegibleResult a.result) xs

@@ -30,7 +30,7 @@ use Rattle.cm_order.specs.declared.stand.Stand.{Stand}
 use Rattle.cm_order.specs.Kids.{IsKid}
 use Rattle.cm_order.specs.declared.dependents.Dependents.{Dependents}
 use Rattle.cm_order.specs.Glances.{IsCleared, KnowsDependents}
-use Rattle.cm_order.specs.Plans.{IsFreeOnTheWay, IsKnownLevel, AreShutSoFar, IsDescent, IsPlan, KnowsNone}
+use Rattle.cm_order.specs.Plans.{IsFreeOnTheWay, IsKnownLevel, AreShutSoFar, IsDescent, IsPlan}
 use Rattle.cm_order.proofs.searches.Reaching.{plan_none}
 use Rattle.cm_order.proofs.trees.Trees.{below_lives, shut_each, shut_all}
 use Rattle.cm_cache.specs.Right.{bare}
@@ -252,17 +252,13 @@ module _ (old new : List Row) (next n m : ℕ) (was : IsOrderly old next) (is : 
 
 -- ---- entries
 
--- a plan that knows of no level holds anywhere
-pub planned_none : (rows : List Row) (plan : DescentPlan) → KnowsNone plan → IsPlan rows plan
-planned_none rows plan none = plan_none rows plan none
-
 -- behind an entry that leaves the rows as they are
 pub planned_same : (rows : List Row) (emptied : Bool) (old new : DescentPlan) → IsPlan rows old → IsPlannedBy emptied old new → IsPlan rows new
-planned_same rows true old new it by = planned_none rows new by
+planned_same rows true old new it by = plan_none rows new by
 planned_same rows false old new it by = subst (IsPlan rows) (sym by) it
 
 planned_by : (w : World) (e : Entry) (emptied : Bool) (old new : DescentPlan) → IsHealthy w → IsStep w e → emptied ≡ forgets w e → IsPlan w.rows old → IsPlannedBy emptied old new → IsPlan (after w e).rows new
-planned_by w e true old new healthy step told it by = planned_none (after w e).rows new by
+planned_by w e true old new healthy step told it by = plan_none (after w e).rows new by
 planned_by w e false old new healthy step told it by =
     let goes : Goes w (after w e) = goes_after w e step in
     let leads : Leads w (after w e) = leads_after w e healthy step in

@@ -24,7 +24,7 @@ module _ {E : Type 0} where
       let r = starts-longer xs ys zs (p.0, p1) (q.0, q1) (omega arith) in
       (r.0, λ i. sym h i ∷ r.1 i)
 
-  starts-antisym : (a b : List E) → StartsWith a b → StartsWith b a → a ≡ b
+  pub starts-antisym : (a b : List E) → StartsWith a b → StartsWith b a → a ≡ b
   starts-antisym a b p q = none_left p.0 p.1
     where
       none_left : (r : List E) → a ≡ b ++ r → a ≡ b

@@ -1,5 +1,5 @@
 mod ViewLists
-mod Histories
+pub mod Histories
 mod Moments
 mod Tickets
 mod RecordsState

@@ -1,13 +1,13 @@
 use Rattle.std.proofs.Common.{◌≡◌, ℕ, List, [], ◌∷◌, ◌++◌, length, true≢false, Option, Some, None, refl, sym, ◌∙◌, ap, IsTrue, arith, nat_cmp, Ordering, Less, Equal, Greater, is_eq, is_lt}
 use Rattle.std.specs.Ordering.{ordering_reverse, ordering_then, is_le}
 use Rattle.std.specs.Cmp.{unsigned_ties, unsigned_Decides}
-use Rattle.cm_names.specs.declared.child.ChildName.{ChildName}
 use Rattle.cm_names.specs.Child.{child_text}
 use Rattle.cm_facts.proofs.Orders.{slice_cmp_equal}
 use Rattle.cm_decl.specs.declared.node.Node.{Node}
 use Rattle.cm_decl.specs.declared.node.Node.TheVariants.{Own, Child}
 use Rattle.cm_decl.specs.NodeOrder.{coll_length, text_cmp, node_cmp, node_at_most}
 use Rattle.cm_decl.specs.NodeOrderInside.{node_cmp_total}
+use Rattle.cm_decl.proofs.Sameness.{named}
 
 both_equal : (r s : Ordering) → ordering_then r s ≡ Equal → (r ≡ Equal) × (s ≡ Equal)
 both_equal Less s e = absurd (true≢false (sym (ap is_eq e)))
@@ -36,9 +36,6 @@ cut (x ∷ xs) (y ∷ ys) b d e same =
     let first : x ≡ y = ap (head_or x) same in
     let rest : (xs ≡ ys) × (b ≡ d) = cut xs ys b d shorter (ap tail_of same) in
     (ap (λ z. z ∷ xs) first ∙ ap (λ l. y ∷ l) rest.0, rest.1)
-
-named : Option (List ℕ) → List ℕ → ChildName
-named coll name = record { coll = coll; name = name }
 
 -- a child's name is told by its text and the length of its collection
 parts : (c d : Option (List ℕ)) (m n : List ℕ) → child_text (named c m) ≡ child_text (named d n) → coll_length c ≡ coll_length d → named c m ≡ named d n

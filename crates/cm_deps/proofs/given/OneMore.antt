@@ -24,7 +24,7 @@ use Rattle.cm_deps.proofs.loops.Ways.{DependencyPath-map, Reaches-along, last_st
 use Rattle.cm_deps.proofs.given.Sourcing.{given_other, given_same, sources_append}
 
 -- the nodes, with one more
-more_nodes : (d : Decl) (dynamic : List DynChild) (k : DynChild) (x : Node) → is_node d (dynamic ++ k ∷ []) x ≡ (is_node d dynamic x || (same_node (Child k.name) x || false))
+pub more_nodes : (d : Decl) (dynamic : List DynChild) (k : DynChild) (x : Node) → is_node d (dynamic ++ k ∷ []) x ≡ (is_node d dynamic x || (same_node (Child k.name) x || false))
 more_nodes d dynamic k x =
     ap (list_any (λ y. same_node y x)) (ap (λ l. (Own ∷ map static_node d.children) ++ l) (map-append dynamic_node dynamic (k ∷ [])) ∙ sym (append_assoc (Own ∷ map static_node d.children) (map dynamic_node dynamic) (dynamic_node k ∷ []))) ∙
     list_any-append (λ y. same_node y x) (nodes d dynamic) (Child k.name ∷ [])
@@ -44,7 +44,7 @@ old_node d dynamic k x has = more_nodes d dynamic k x ∙ or_left (is_node d dyn
 its_node : (d : Decl) (dynamic : List DynChild) (k : DynChild) → IsTrue (is_node d (dynamic ++ k ∷ []) (Child k.name))
 its_node d dynamic k = more_nodes d dynamic k (Child k.name) ∙ or_right (is_node d dynamic (Child k.name)) (same_node (Child k.name) (Child k.name) || false) (or_left (same_node (Child k.name) (Child k.name)) false (same_node-refl (Child k.name)))
 
-new_node : (d : Decl) (dynamic : List DynChild) (k : DynChild) (x : Node) → (x ≡ Child k.name → ⊥) → IsTrue (is_node d (dynamic ++ k ∷ []) x) → IsTrue (is_node d dynamic x)
+pub new_node : (d : Decl) (dynamic : List DynChild) (k : DynChild) (x : Node) → (x ≡ Child k.name → ⊥) → IsTrue (is_node d (dynamic ++ k ∷ []) x) → IsTrue (is_node d dynamic x)
 new_node d dynamic k x apart has = elim (or_cases (is_node d dynamic x) (same_node (Child k.name) x || false) (sym (more_nodes d dynamic k x) ∙ has)) as (λ _. IsTrue (is_node d dynamic x)) [
   | inl old ↦ old
   | inr new ↦ (elim (or_cases (same_node (Child k.name) x) false new) as (λ _. IsTrue (is_node d dynamic x)) [

@@ -1,9 +1,8 @@
 -- A new child closes no ring, where no way leads from it back to it.
-use Rattle.std.proofs.Common.{◌≡◌, ℕ, List, [], ◌∷◌, ◌++◌, Bool, true, false, not, ◌&&◌, ◌||◌, true≢false, Option, Some, None, IsTrue, is_some, is_none, filter, map, refl, sym, ◌∙◌, ap, subst, inl, inr, ◌⊎◌, append_assoc}
+use Rattle.std.proofs.Common.{◌≡◌, ℕ, List, [], ◌∷◌, ◌++◌, Bool, true, false, not, ◌&&◌, ◌||◌, true≢false, Option, Some, None, IsTrue, is_some, is_none, filter, map, refl, sym, ◌∙◌, subst, inl, inr, ◌⊎◌}
 use Rattle.std.specs.List.{list_any, list_all}
 use Rattle.std.specs.Option.{option_map_or}
 use Rattle.std.specs.BTreeSet.{BTreeSet}
-use Rattle.std.proofs.lemmas.List.{map-append}
 use Rattle.std.proofs.lemmas.List.Folds.{list_any-append}
 use Rattle.std.proofs.lemmas.Bool.{and_from as and_pair, or_cases}
 use Rattle.std.specs.Cmp.{first_so, second_so}
@@ -18,7 +17,7 @@ use Rattle.cm_decl.specs.declared.origin.Origin.{Origin}
 use Rattle.cm_decl.specs.declared.origin.Origin.TheVariants as origin
 use Rattle.cm_decl.specs.Same.{same_child, same_node}
 use Rattle.cm_decl.specs.Reach.{DependencyPath, Reaches, NoCycle}
-use Rattle.cm_decl.specs.Graph.{nodes, is_node, static_name, is_strong, is_from_node, static_node, dynamic_node, offers_to, gives_of, child_sources, sources_of, StrongOn}
+use Rattle.cm_decl.specs.Graph.{is_node, static_name, is_strong, is_from_node, static_node, dynamic_node, offers_to, gives_of, child_sources, sources_of, StrongOn}
 use Rattle.cm_decl.proofs.Sameness.{never, same_child_exact, same_node-refl, same_node_exact}
 use Rattle.cm_decl.proofs.orders.Orders.{edge_nodes}
 use Rattle.cm_decl.proofs.cycles.Reaching.{Reaches-trans}
@@ -34,37 +33,20 @@ use Rattle.cm_dynamic.specs.Onward.{is_past, is_past_from, leads_past, ComesFrom
 use Rattle.cm_dynamic.proofs.graphs.Rings.{IsKept, one_kept, is_static, some_not_none, unbound, static_source, own_static, plain_offers}
 use Rattle.cm_dynamic.proofs.graphs.Further.{any_kept, any_sibling, created_names}
 use Rattle.cm_dynamic.proofs.graphs.Named.{has_one, node_named, given_named, IsNamed, named}
+use Rattle.cm_deps.proofs.given.OneMore.{new_node}
+use Rattle.cm_world.proofs.examples.Declarations.{edge_source}
 
 -- ---- one child more
 
--- the nodes, with one more
-more_nodes : (d : Decl) (old : List DynChild) (k : DynChild) (x : Node) → is_node d (old ++ k ∷ []) x ≡ (is_node d old x || (same_node (Child k.name) x || false))
-more_nodes d old k x =
-    ap (list_any (λ y. same_node y x)) (ap (λ l. (Own ∷ map static_node d.children) ++ l) (map-append dynamic_node old (k ∷ [])) ∙ sym (append_assoc (Own ∷ map static_node d.children) (map dynamic_node old) (dynamic_node k ∷ [])))
-    ∙ list_any-append (λ y. same_node y x) (nodes d old) (Child k.name ∷ [])
-
-other_node : (d : Decl) (old : List DynChild) (k : DynChild) (x : Node) → (x ≡ Child k.name → ⊥) → IsTrue (is_node d (old ++ k ∷ []) x) → IsTrue (is_node d old x)
-other_node d old k x apart has = elim (or_cases (is_node d old x) (same_node (Child k.name) x || false) (sym (more_nodes d old k x) ∙ has)) as (λ _. IsTrue (is_node d old x)) [
-  | inl before ↦ before
-  | inr new ↦ (elim (or_cases (same_node (Child k.name) x) false new) as (λ _. IsTrue (is_node d old x)) [
-    | inl same ↦ absurd (apart (sym (same_node_exact (Child k.name) x same)))
-    | inr nothing ↦ never nothing
-  ])
-]
-
-comes : (d : Decl) (ks : List DynChild) (x y : Node) → StrongOn d ks x y → IsTrue (list_any (is_from_node y) (sources_of d ks x))
-comes d ks x y strong =
-    first_so (list_any (is_from_node y) (sources_of d ks x)) (is_node d ks x)
-    (first_so (list_any (is_from_node y) (sources_of d ks x) && is_node d ks x) (is_node d ks y) strong)
 
 -- an edge between others was there before
 edge_before : (d : Decl) (old : List DynChild) (k : DynChild) (x y : Node) → (x ≡ Child k.name → ⊥) → (y ≡ Child k.name → ⊥) → StrongOn d (old ++ k ∷ []) x y → StrongOn d old x y
 edge_before d old k x y first second edge =
     let ends : IsTrue (is_node d (old ++ k ∷ []) x) × IsTrue (is_node d (old ++ k ∷ []) y) = edge_nodes d (old ++ k ∷ []) x y edge in
-    let from : IsTrue (list_any (is_from_node y) (sources_of d old x)) = subst (λ l. IsTrue (list_any (is_from_node y) l)) (given_other d old k x first) (comes d (old ++ k ∷ []) x y edge) in
+    let from : IsTrue (list_any (is_from_node y) (sources_of d old x)) = subst (λ l. IsTrue (list_any (is_from_node y) l)) (given_other d old k x first) (edge_source d (old ++ k ∷ []) x y edge) in
     and_pair (list_any (is_from_node y) (sources_of d old x) && is_node d old x) (is_node d old y)
-    (and_pair (list_any (is_from_node y) (sources_of d old x)) (is_node d old x) from (other_node d old k x first ends.0))
-    (other_node d old k y second ends.1)
+    (and_pair (list_any (is_from_node y) (sources_of d old x)) (is_node d old x) from (new_node d old k x first ends.0))
+    (new_node d old k y second ends.1)
 
 -- so was a way that doesn't pass the new one
 way_before : (d : Decl) (old : List DynChild) (k : DynChild) (x : Node) (zs : List Node) (y : Node) → (x ≡ Child k.name → ⊥) → (y ≡ Child k.name → ⊥) → (Reaches (StrongOn d (old ++ k ∷ [])) x (Child k.name) → Reaches (StrongOn d (old ++ k ∷ [])) (Child k.name) y → ⊥) → DependencyPath (StrongOn d (old ++ k ∷ [])) x zs y → DependencyPath (StrongOn d old) x zs y
@@ -147,7 +129,7 @@ module _ (rows : List Row) (next p : ℕ) (d : Decl) (new : ChildName) (gives : 
   past_inside : (c : ChildName) → IsTrue (is_some c.coll) → IsTrue (is_past rows p new seen c) → IsTrue (is_node d all (Child c)) → IsInside rows p new seen (Child c)
   past_inside c coll past node =
       let other : IsTrue (not (same_child c new)) = first_so (not (same_child c new)) (option_map_or (is_in_set seen) (child_of rows p c) true) past in
-      let before : IsTrue (is_node d (dynamic_children rows p) (Child c)) = other_node d (dynamic_children rows p) It (Child c) (static_of (Child c) other) node in
+      let before : IsTrue (is_node d (dynamic_children rows p) (Child c)) = new_node d (dynamic_children rows p) It (Child c) (static_of (Child c) other) node in
       let parts : IsTrue (list_any (λ n. same_node n (Child c)) (Own ∷ map static_node d.children)) ⊎ IsTrue (list_any (λ n. same_node n (Child c)) (map dynamic_node (dynamic_children rows p))) = or_cases (list_any (λ n. same_node n (Child c)) (Own ∷ map static_node d.children)) (list_any (λ n. same_node n (Child c)) (map dynamic_node (dynamic_children rows p)))
       (sym (list_any-append (λ n. same_node n (Child c)) (Own ∷ map static_node d.children) (map dynamic_node (dynamic_children rows p))) ∙ before) in
       elim parts [
@@ -211,7 +193,7 @@ module _ (rows : List Row) (next p : ℕ) (d : Decl) (new : ChildName) (gives : 
   from_new : (y : Node) → StrongOn d all (Child new) y → IsInside rows p new seen y
   from_new y edge =
       let any : IsTrue (list_any (is_from_node y) (sources_of d old (Child new) ++ map (λ g. g.from) (filter (λ g. is_strong g.dependency) gives))) =
-      subst (λ l. IsTrue (list_any (is_from_node y) l)) (given_same d old It) (comes d (old ++ It ∷ []) (Child new) y edge) in
+      subst (λ l. IsTrue (list_any (is_from_node y) l)) (given_same d old It) (edge_source d (old ++ It ∷ []) (Child new) y edge) in
       elim (or_cases (list_any (is_from_node y) (sources_of d old (Child new))) (list_any (is_from_node y) (map (λ g. g.from) (filter (λ g. is_strong g.dependency) gives)))
       (sym (list_any-append (is_from_node y) (sources_of d old (Child new)) (map (λ g. g.from) (filter (λ g. is_strong g.dependency) gives))) ∙ any)) [
         | inl before ↦ elim (before_parts new y before) [
@@ -223,10 +205,10 @@ module _ (rows : List Row) (next p : ℕ) (d : Decl) (new : ChildName) (gives : 
 
   -- from a node that is none of a child of a collection
   from_static : (x y : Node) → IsTrue (is_static x) → StrongOn d all x y → IsInside rows p new seen y
-  from_static Own y static edge = inl (own_static d [] declared y (comes d (old ++ It ∷ []) Own y edge))
+  from_static Own y static edge = inl (own_static d [] declared y (edge_source d (old ++ It ∷ []) Own y edge))
   from_static (Child c) y static edge =
       let apart : Child c ≡ Child new → ⊥ = λ same. some_not_none new.coll created (subst (λ n. IsTrue (is_static n)) same static) in
-      elim (before_parts c y (subst (λ l. IsTrue (list_any (is_from_node y) l)) (given_other d old It (Child c) apart) (comes d (old ++ It ∷ []) (Child c) y edge))) [
+      elim (before_parts c y (subst (λ l. IsTrue (list_any (is_from_node y) l)) (given_other d old It (Child c) apart) (edge_source d (old ++ It ∷ []) (Child c) y edge))) [
         | inl declared ↦ inl declared
         | inr given ↦ absurd (some_not_none c.coll (sibling c y given) static)
       ]
@@ -239,7 +221,7 @@ module _ (rows : List Row) (next p : ℕ) (d : Decl) (new : ChildName) (gives : 
   from_seen x y it edge =
       let c : ChildName = it.name in
       let strong : StrongOn d (old ++ It ∷ []) (Child c) y = subst (λ v. StrongOn d (old ++ It ∷ []) v y) it.is edge in
-      elim (before_parts c y (subst (λ l. IsTrue (list_any (is_from_node y) l)) (given_other d old It (Child c) (static_of (Child c) it.other)) (comes d (old ++ It ∷ []) (Child c) y strong))) [
+      elim (before_parts c y (subst (λ l. IsTrue (list_any (is_from_node y) l)) (given_other d old It (Child c) (static_of (Child c) it.other)) (edge_source d (old ++ It ∷ []) (Child c) y strong))) [
         | inl declared ↦ inl declared
         | inr given ↦
             let row : IsNamed rows p c (λ gs. strong_from y gs) = given_row c y given in

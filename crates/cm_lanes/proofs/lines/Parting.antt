@@ -23,94 +23,93 @@ use Rattle.cm_command.specs.declared.command.Command.{Command}
 use Rattle.cm_command.specs.declared.command.Command.TheVariants as command
 use Rattle.cm_command.specs.declared.script.Line.{Line}
 use Rattle.cm_answers.specs.declared.acted.ActionResult.{ActionResult}
-use Rattle.cm_manager.specs.Turns.{own_entries, IsLaterHistory}
+use Rattle.cm_manager.specs.Turns.{own_entries}
 use Rattle.cm_manager.specs.Runs.{RunsAction, RetriesEvent, StartsSingleRun, decided, needs, failed, cut_try}
 use Rattle.cm_manager.specs.Calls.{CallWay, Finding, GoesOnWithRow, OnRow, CallsEvent, Nothing, Then, CallsEventThen, OnceCreated, SweptLeft}
 use Rattle.cm_manager.specs.Calls.{CallsAction, ComesToAnswer, Calls}
 use Rattle.cm_manager.specs.Shutdowns.{Shuts, Destroys}
 use Rattle.cm_manager.specs.Streams.{Streams}
 use Rattle.cm_manager.specs.Doctor.{Checks, GathersEach, OfPath, OfRow, Doctors}
-use Rattle.cm_manager.proofs.calling.Joining.{starts-trans}
-use Rattle.cm_manager.proofs.left.Closing.{makes-own, cut-later, acts-close, sweeps_close}
+use Rattle.cm_manager.proofs.left.Closing.{makes-own, cut-later, acts-close, sweeps_close, later-self}
 use Rattle.cm_manager.proofs.shutdowns.ShuttingDown.{shuts_close, destroys_close}
 use Rattle.cm_lanes.specs.Script.{AnsweredLine, answers_of, PerformsLines, rests, performs, IsPhase, ArePhases}
 use Rattle.cm_lanes.specs.Laws.{FallsIntoRuns, no_answer}
-use Rattle.cm_manager.proofs.calling.Keeping.{starts_same}
+use Rattle.cm_turn.proofs.Histories.{starts-refl, starts-trans}
 
 -- ---- a call's history goes on
 
-tries_grow : (f : Frame) (c : ℕ) (e : Event) {a b : List Entry} {end : Result Reply Refusal} → RetriesEvent f c e a b end → StartsWith b a
+pub tries_grow : (f : Frame) (c : ℕ) (e : Event) {a b : List Entry} {end : Result Reply Refusal} → RetriesEvent f c e a b end → StartsWith b a
 tries_grow f c e (decided asks is) = (makes-own c _ _ _ _ asks.made).0
-tries_grow f c e (needs asks is act fine again) = starts-trans _ _ _ (makes-own c _ _ _ _ asks.made).0 (starts-trans _ _ _ (acts-close f c act).grows (tries_grow f c e again))
-tries_grow f c e (failed asks is act fails) = starts-trans _ _ _ (makes-own c _ _ _ _ asks.made).0 (acts-close f c act).grows
+tries_grow f c e (needs asks is act fine again) = starts-trans _ _ _ (starts-trans _ _ _ (acts-close f c act).grows (tries_grow f c e again)) (makes-own c _ _ _ _ asks.made).0
+tries_grow f c e (failed asks is act fails) = starts-trans _ _ _ (acts-close f c act).grows (makes-own c _ _ _ _ asks.made).0
 tries_grow f c e (cut_try {h₀ = a} {h₁ = b} {x = x} is) = (cut-later f c a b e x is).grows
 
-abbrev Growing : (ℕ → CallWay (Result Answer Refusal)) → Type 0
+abbrev pub Growing : (ℕ → CallWay (Result Answer Refusal)) → Type 0
 Growing call = (i : ℕ) (a b : List Entry) (r : Result Answer Refusal) → call i a b r → StartsWith b a
 
-finding_grows : (f : Frame) (c : ℕ) (t : Target) (a b : List Entry) (row : Result ℕ Refusal) → Finding f c t a b row → StartsWith b a
-finding_grows f c (target.Inc n) a b row is = subst (λ (l : List Entry). StartsWith l a) (sym is.0) (starts_same a)
+pub finding_grows : (f : Frame) (c : ℕ) (t : Target) (a b : List Entry) (row : Result ℕ Refusal) → Finding f c t a b row → StartsWith b a
+finding_grows f c (target.Inc n) a b row is = subst (λ (l : List Entry). StartsWith l a) (sym is.0) (starts-refl a)
 finding_grows f c (target.Named m) a b row is = tries_grow f c _ is.1
 
-behind_grows : (row : Result ℕ Refusal) (call : ℕ → CallWay (Result Answer Refusal)) (a b : List Entry) (r : Result Answer Refusal) → Growing call → GoesOnWithRow row call a b r → StartsWith b a
+pub behind_grows : (row : Result ℕ Refusal) (call : ℕ → CallWay (Result Answer Refusal)) (a b : List Entry) (r : Result Answer Refusal) → Growing call → GoesOnWithRow row call a b r → StartsWith b a
 behind_grows (Ok i) call a b r grows is = grows i a b r is
-behind_grows (Err x) call a b r grows is = subst (λ (l : List Entry). StartsWith l a) (sym is.0) (starts_same a)
+behind_grows (Err x) call a b r grows is = subst (λ (l : List Entry). StartsWith l a) (sym is.0) (starts-refl a)
 
-on_row_grows : (f : Frame) (c : ℕ) (t : Target) (call : ℕ → CallWay (Result Answer Refusal)) (a b : List Entry) (r : Result Answer Refusal) → Growing call → OnRow f c t call a b r → StartsWith b a
-on_row_grows f c t call a b r grows is = starts-trans a is.h₁ b (finding_grows f c t a is.h₁ is.row is.finding) (behind_grows is.row call is.h₁ b r grows is.behind)
+pub on_row_grows : (f : Frame) (c : ℕ) (t : Target) (call : ℕ → CallWay (Result Answer Refusal)) (a b : List Entry) (r : Result Answer Refusal) → Growing call → OnRow f c t call a b r → StartsWith b a
+on_row_grows f c t call a b r grows is = starts-trans b is.h₁ a (behind_grows is.row call is.h₁ b r grows is.behind) (finding_grows f c t a is.h₁ is.row is.finding)
 
-tried_grows : (f : Frame) (c : ℕ) (e : ℕ → Event) → Growing (CallsEvent f c e)
+pub tried_grows : (f : Frame) (c : ℕ) (e : ℕ → Event) → Growing (CallsEvent f c e)
 tried_grows f c e i a b r is = tries_grow f c (e i) is.1
 
 -- and what follows from a reply
 
-nothing_grows : (a b : List Entry) (end : Option Refusal) → Nothing a b end → StartsWith b a
-nothing_grows a b end is = subst (λ (l : List Entry). StartsWith l a) (sym is.0) (starts_same a)
+pub nothing_grows : (a b : List Entry) (end : Option Refusal) → Nothing a b end → StartsWith b a
+nothing_grows a b end is = subst (λ (l : List Entry). StartsWith l a) (sym is.0) (starts-refl a)
 
-abbrev Following : (ℕ → Reply → CallWay (Option Refusal)) → Type 0
+abbrev pub Following : (ℕ → Reply → CallWay (Option Refusal)) → Type 0
 Following follow = (i : ℕ) (r : Reply) (a b : List Entry) (end : Option Refusal) → follow i r a b end → StartsWith b a
 
-onces_grow : (f : Frame) (c i : ℕ) {a b : List Entry} {end : Option Refusal} → StartsSingleRun f c i a b end → StartsWith b a
+pub onces_grow : (f : Frame) (c i : ℕ) {a b : List Entry} {end : Option Refusal} → StartsSingleRun f c i a b end → StartsWith b a
 onces_grow f c i (StartsSingleRun.not_once later is) = later.grows
-onces_grow f c i (StartsSingleRun.once later is act) = starts-trans _ _ _ later.grows (acts-close f c act).grows
+onces_grow f c i (StartsSingleRun.once later is act) = starts-trans _ _ _ (acts-close f c act).grows later.grows
 
-created_grows : (f : Frame) (c : ℕ) → Following (OnceCreated f c)
+pub created_grows : (f : Frame) (c : ℕ) → Following (OnceCreated f c)
 created_grows f c i (reply.Created j) a b end is = onces_grow f c j is
 created_grows f c i _ a b end is = nothing_grows a b end is
 
-left_grows : (f : Frame) (c : ℕ) → Following (SweptLeft f c)
+pub left_grows : (f : Frame) (c : ℕ) → Following (SweptLeft f c)
 left_grows f c i (reply.Left m) a b end is = (sweeps_close f c i is).grows
 left_grows f c i _ a b end is = nothing_grows a b end is
 
-then_grows : (follow : ℕ → Reply → CallWay (Option Refusal)) (i : ℕ) (went : Result Reply Refusal) (a b : List Entry) (end : Option Refusal) → Following follow → Then (follow i) went a b end → StartsWith b a
+pub then_grows : (follow : ℕ → Reply → CallWay (Option Refusal)) (i : ℕ) (went : Result Reply Refusal) (a b : List Entry) (end : Option Refusal) → Following follow → Then (follow i) went a b end → StartsWith b a
 then_grows follow i (Ok r) a b end grows is = grows i r a b end is
 then_grows follow i (Err x) a b end grows is = nothing_grows a b end is
 
-tried_then_grows : (f : Frame) (c : ℕ) (e : ℕ → Event) (follow : ℕ → Reply → CallWay (Option Refusal)) → Following follow → Growing (CallsEventThen f c e follow)
-tried_then_grows f c e follow grows i a b r is = starts-trans a is.h₁ b (tries_grow f c (e i) is.tries) (then_grows follow i is.went is.h₁ b is.end grows is.follows)
+pub tried_then_grows : (f : Frame) (c : ℕ) (e : ℕ → Event) (follow : ℕ → Reply → CallWay (Option Refusal)) → Following follow → Growing (CallsEventThen f c e follow)
+tried_then_grows f c e follow grows i a b r is = starts-trans b is.h₁ a (then_grows follow i is.went is.h₁ b is.end grows is.follows) (tries_grow f c (e i) is.tries)
 
-acted_grows : (f : Frame) (c : ℕ) (k : ActKind) (value : Result ActionResult Refusal → Result Answer Refusal) → Growing (CallsAction f c k value)
+pub acted_grows : (f : Frame) (c : ℕ) (k : ActKind) (value : Result ActionResult Refusal → Result Answer Refusal) → Growing (CallsAction f c k value)
 acted_grows f c k value i a b r is = (acts-close f c is.1).grows
 
-each_grows : {A : Type 0} (Item : A → Checks) → ((x : A) (a b : List Entry) (end : Result (List Checked) Refusal) → Item x a b end → StartsWith b a) → {xs : List A} {a b : List Entry} {end : Result (List Checked) Refusal} → GathersEach Item xs a b end → StartsWith b a
-each_grows Item grows GathersEach.no_item = starts_same _
-each_grows Item grows (GathersEach.next_item item rest) = starts-trans _ _ _ (grows _ _ _ _ item) (each_grows Item grows rest)
+pub each_grows : {A : Type 0} (Item : A → Checks) → ((x : A) (a b : List Entry) (end : Result (List Checked) Refusal) → Item x a b end → StartsWith b a) → {xs : List A} {a b : List Entry} {end : Result (List Checked) Refusal} → GathersEach Item xs a b end → StartsWith b a
+each_grows Item grows GathersEach.no_item = starts-refl _
+each_grows Item grows (GathersEach.next_item item rest) = starts-trans _ _ _ (each_grows Item grows rest) (grows _ _ _ _ item)
 each_grows Item grows (GathersEach.cut_item item) = grows _ _ _ _ item
 each_grows Item grows (GathersEach.lost_item item) = grows _ _ _ _ item
 
-row_grows : (f : Frame) (c : ℕ) (row : SurveyRow) (a b : List Entry) (end : Result (List Checked) Refusal) → OfRow f c row a b end → StartsWith b a
-row_grows f c row a b end (OfRow.unresolved is) = starts_same _
+pub row_grows : (f : Frame) (c : ℕ) (row : SurveyRow) (a b : List Entry) (end : Result (List Checked) Refusal) → OfRow f c row a b end → StartsWith b a
+row_grows f c row a b end (OfRow.unresolved is) = starts-refl _
 row_grows f c row a b end (OfRow.resolved is paths) = each_grows (OfPath f c row) (λ p a b end way. tries_grow f c _ way.1) paths
 
-doctors_grow : (f : Frame) (c : ℕ) → Growing (Doctors f c)
-doctors_grow f c i a b r (Doctors.surveyed survey is rows) = starts-trans _ _ _ (tries_grow f c _ survey) (each_grows (OfRow f c) (row_grows f c) rows)
+pub doctors_grow : (f : Frame) (c : ℕ) → Growing (Doctors f c)
+doctors_grow f c i a b r (Doctors.surveyed survey is rows) = starts-trans _ _ _ (each_grows (OfRow f c) (row_grows f c) rows) (tries_grow f c _ survey)
 doctors_grow f c i a b r (Doctors.not_surveyed survey is) = tries_grow f c _ survey
 
-streams_grow : (f : Frame) (c from : ℕ) → Growing (Streams f c from)
+pub streams_grow : (f : Frame) (c from : ℕ) → Growing (Streams f c from)
 streams_grow f c from i a b r (Streams.told asks) = (makes-own c _ _ _ _ asks.made).0
 streams_grow f c from i a b r (Streams.cut {x = x} is) = (cut-later f c a b (event.Tail i from) x is).grows
 
-calls_grow : (f : Frame) (c : ℕ) (cmd : Command) (a b : List Entry) (r : Result Answer Refusal) → Calls f c cmd a b r → StartsWith b a
+pub calls_grow : (f : Frame) (c : ℕ) (cmd : Command) (a b : List Entry) (r : Result Answer Refusal) → Calls f c cmd a b r → StartsWith b a
 calls_grow f c (command.Resolve t) a b r is = on_row_grows f c t _ a b r (acted_grows f c _ _) is
 calls_grow f c (command.Start t) a b r is = on_row_grows f c t _ a b r (acted_grows f c _ _) is
 calls_grow f c (command.Stop t) a b r is = on_row_grows f c t _ a b r (acted_grows f c _ _) is
@@ -129,7 +128,7 @@ calls_grow f c (command.Events t from) a b r is = on_row_grows f c t _ a b r (st
 
 follows_grows : (f : Frame) (c : ℕ) (xs : List AnsweredLine) (a b : List Entry) → PerformsLines f c xs a b → StartsWith b a
 follows_grows f c xs a b (rests later) = later.grows
-follows_grows f c xs a b (performs {a = x} {h₁ = h} calls rest) = starts-trans a h b (calls_grow f c x.line.command a h x.result calls) (follows_grows f c _ h b rest)
+follows_grows f c xs a b (performs {a = x} {h₁ = h} calls rest) = starts-trans b h a (follows_grows f c _ h b rest) (calls_grow f c x.line.command a h x.result calls)
 
 -- ---- its parts
 
@@ -150,7 +149,7 @@ falls_into_runs f c (x ∷ others) a b history (performs {h₁ = h} calls rest) 
           legal = legal;
           before = a;
           after = h;
-          within = starts-trans h b history (follows_grows f c _ h b rest) within;
+          within = starts-trans history b h within (follows_grows f c _ h b rest);
           goes = calls;
           part_is = own_part c a h grows;
         },
@@ -160,11 +159,8 @@ falls_into_runs f c (x ∷ others) a b history (performs {h₁ = h} calls rest) 
 
 -- ---- lines that are lost
 
-no_later : (c : ℕ) (h : List Entry) → IsLaterHistory c h h
-no_later c h = record { grows = starts_same h; own = refl }
-
 tries_lost : (f : Frame) (c : ℕ) (e : Event) (h : List Entry) → RetriesEvent f c e h h (Err refusal.Memory)
-tries_lost f c e h = RetriesEvent.cut_try (no_later c h)
+tries_lost f c e h = RetriesEvent.cut_try (later-self c h)
 
 abbrev Losing : List Entry → (ℕ → CallWay (Result Answer Refusal)) → Type 0
 Losing h call = (i : ℕ) → call i h h (Err refusal.Memory)
@@ -180,19 +176,19 @@ tried_then_lost : (f : Frame) (c : ℕ) (e : ℕ → Event) (follow : ℕ → Re
 tried_then_lost f c e follow h i = record { went = Err refusal.Memory; h₁ = h; end = None; tries = tries_lost f c (e i) h; follows = (refl, refl); answer = refl }
 
 acted_lost : (f : Frame) (c : ℕ) (k : ActKind) (value : Result ActionResult Refusal → Result Answer Refusal) (h : List Entry) → Err refusal.Memory ≡ value (Err refusal.Memory) → Losing h (CallsAction f c k value)
-acted_lost f c k value h same i = (Err refusal.Memory, RunsAction.cut (no_later c h), same)
+acted_lost f c k value h same i = (Err refusal.Memory, RunsAction.cut (later-self c h), same)
 
 shut_lost : (f : Frame) (c : ℕ) (h : List Entry) → Losing h (λ i. ComesToAnswer answer.Shut (Shuts f c false i))
-shut_lost f c h i = (Some refusal.Memory, Shuts.cut_mark (no_later c h), refl)
+shut_lost f c h i = (Some refusal.Memory, Shuts.cut_mark (later-self c h), refl)
 
 destroyed_lost : (f : Frame) (c : ℕ) (h : List Entry) → Losing h (λ i. ComesToAnswer answer.Destroyed (Destroys f c i))
-destroyed_lost f c h i = (Some refusal.Memory, Destroys.unshut (Shuts.cut_mark (no_later c h)), refl)
+destroyed_lost f c h i = (Some refusal.Memory, Destroys.unshut (Shuts.cut_mark (later-self c h)), refl)
 
 doctored_lost : (f : Frame) (c : ℕ) (h : List Entry) → Losing h (Doctors f c)
 doctored_lost f c h i = Doctors.not_surveyed (tries_lost f c _ h) refl
 
 streams_lost : (f : Frame) (c from : ℕ) (h : List Entry) → Losing h (Streams f c from)
-streams_lost f c from h i = Streams.cut (no_later c h)
+streams_lost f c from h i = Streams.cut (later-self c h)
 
 calls_lost : (f : Frame) (c : ℕ) (cmd : Command) (h : List Entry) → Calls f c cmd h h (Err refusal.Memory)
 calls_lost f c (command.Resolve t) h = on_row_lost f c t _ h (acted_lost f c _ _ h refl)
@@ -212,14 +208,14 @@ calls_lost f c (command.Exited t) h = on_row_lost f c t _ h (tried_then_lost f c
 calls_lost f c (command.Events t from) h = on_row_lost f c t _ h (streams_lost f c from h)
 
 follows_lost : (f : Frame) (c : ℕ) (lines : List Line) (h : List Entry) → PerformsLines f c (answers_of c (map no_answer lines)) h h
-follows_lost f c [] h = PerformsLines.rests (no_later c h)
+follows_lost f c [] h = PerformsLines.rests (later-self c h)
 follows_lost f c (l ∷ ls) h = first (l.lane == c) (follows_lost f c ls h) where
   first : (b : Bool) → PerformsLines f c (answers_of c (map no_answer ls)) h h → PerformsLines f c (cond b (no_answer l ∷ answers_of c (map no_answer ls)) (answers_of c (map no_answer ls))) h h
   first true rest = PerformsLines.performs (calls_lost f c l.command h) rest
   first false rest = rest
 
 phase_lost : (frames : ℕ → Frame) (lines : List Line) (h : List Entry) → IsPhase frames (map no_answer lines) h h
-phase_lost frames lines h = record { grows = starts_same h; lanes = λ c lt. follows_lost (frames c) c lines h }
+phase_lost frames lines h = record { grows = starts-refl h; lanes = λ c lt. follows_lost (frames c) c lines h }
 
 pub phases_lost : (frames : ℕ → Frame) (phases : List (List Line)) (h : List Entry) → ArePhases frames (map (λ p. map no_answer p) phases) h h
 phases_lost frames [] h = ArePhases.none_left

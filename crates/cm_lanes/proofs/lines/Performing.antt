@@ -22,7 +22,8 @@ use Rattle.cm_lanes.specs.ScriptInside.{said_of, lines_of}
 use Rattle.cm_manager.specs.Kept.{IsOwnPass, KeepsPass, gates_view}
 use Rattle.cm_lanes.specs.Lane.{GrewUnless, HasPerformed, LaneWorked, PutsUnless}
 use Rattle.cm_manager.proofs.calling.Joining.{later-trans}
-use Rattle.cm_manager.proofs.calling.Keeping.{keeps_nothing, keeps_trans, keeps_helps, starts_same}
+use Rattle.cm_manager.proofs.calling.Keeping.{keeps_nothing, keeps_trans, keeps_helps}
+use Rattle.cm_turn.proofs.Histories.{starts-refl}
 
 -- between two lines: what is performed from here on is performed behind what was
 pub record Performing (manifests : Manifests) (lines : List Line) (p q : RealmPass) (g h : GatesView) (said₀ said₁ : List Said) (lost : Bool) : Type 0 where
@@ -73,7 +74,7 @@ performing_next lines l s t u said₀ said₁ said₂ before now a same is own w
 pub performing_all : (manifests : Manifests) (lines : List Line) (p q : RealmPass) (g h : GatesView) (said₀ said₁ : List Said) (lost : Bool) → (is : Performing manifests lines p q g h said₀ said₁ lost) → PerformsLines (frame_of p) p.caller is.answers p.seen q.seen
 performing_all manifests lines p q g h said₀ said₁ lost is =
     subst (λ (ys : List AnsweredLine). PerformsLines (frame_of p) p.caller ys p.seen q.seen) (append-nil is.answers)
-    (is.goes_on [] q.seen (PerformsLines.rests (record { grows = starts_same q.seen; own = refl })))
+    (is.goes_on [] q.seen (PerformsLines.rests (record { grows = starts-refl q.seen; own = refl })))
 
 -- who has performed lines has performed them at a later place of the history too
 pub follows_later : (f : Frame) (c : ℕ) (xs : List AnsweredLine) (a b d : List Entry) → PerformsLines f c xs a b → IsLaterHistory c b d → PerformsLines f c xs a d

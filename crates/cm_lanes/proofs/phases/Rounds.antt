@@ -1,17 +1,16 @@
 -- One lane meets others, one after another.
-use Rattle.std.proofs.Common.{◌≡◌, ◌≢◌, ◌⊎◌, ℕ, zero, suc, ◌+◌, ◌<◌, ◌≤◌, List, [], ◌∷◌, ◌++◌, All, Any, Some, length, set, get_or, refl, sym, ap, ◌∙◌, subst, inl, inr, append-nil, append_assoc, arith, get_or-set_other, get_or-set_same, below_more}
+use Rattle.std.proofs.Common.{◌≡◌, ◌≢◌, ◌⊎◌, ℕ, zero, suc, ◌+◌, ◌<◌, ◌≤◌, List, [], ◌∷◌, ◌++◌, All, Any, Some, length, set, get_or, refl, sym, ap, ◌∙◌, subst, inl, inr, arith, get_or-set_other, get_or-set_same, below_more}
 use Rattle.std.proofs.lemmas.List.{get_or_default}
 use Rattle.cm_turn.specs.History.{StartsWith}
 use Rattle.cm_turn.specs.Passes.{LockView, seen_up_to}
 use Rattle.cm_world.specs.declared.reply.Entry.{Entry}
 use Rattle.cm_world.proofs.trees.Finding.{some_same}
 use Rattle.cm_manager.specs.Contract.{RealmPass}
-use Rattle.cm_manager.proofs.calling.Joining.{starts-trans}
 use Rattle.cm_lanes.specs.declared.lane.Lane.{Lane}
 use Rattle.cm_manager.specs.Kept.{IsOwnPass}
 use Rattle.cm_lanes.specs.Lane.{HasPass, HasSeen, Met, MetBoth, MetAll}
 use Rattle.cm_lanes.specs.Meeting.{MetWithin, HasSeenWithin, MeetsEach}
-use Rattle.cm_manager.proofs.calling.Keeping.{starts_same}
+use Rattle.cm_turn.proofs.Histories.{starts-refl, starts-trans, starts-antisym}
 
 -- two lists that begin with each other are one
 no_more : (xs ys : List Entry) → xs ++ ys ≡ xs → ys ≡ []
@@ -22,19 +21,14 @@ no_prefix : (xs ys : List Entry) → xs ++ ys ≡ [] → xs ≡ []
 no_prefix [] ys e = refl
 no_prefix (x ∷ xs) ys e = absurd (cc e)
 
-pub starts_both : (a b : List Entry) → StartsWith a b → StartsWith b a → a ≡ b
-starts_both a b ab ba =
-    let none = no_more b (ab.0 ++ ba.0) (sym (append_assoc b ab.0 ba.0) ∙ ap (λ (l : List Entry). l ++ ba.0) (sym ab.1) ∙ sym ba.1) in
-    ab.1 ∙ ap (λ (l : List Entry). b ++ l) (no_prefix ab.0 ba.0 none) ∙ append-nil b
-
 -- what two passes say of their meeting
 pub met_both : {G : Type 0} (a b : Lane G) (p q p' q' : RealmPass) → a.pass ≡ Some p → b.pass ≡ Some q → p' ≡ seen_up_to p'.seen p → q' ≡ seen_up_to q'.seen q → p'.seen ≡ q'.seen → IsOwnPass p' → IsOwnPass q' → (StartsWith q.seen p.seen × (p'.seen ≡ q.seen)) ⊎ (StartsWith p.seen q.seen × (p'.seen ≡ p.seen)) → MetBoth a b (record a { pass = Some p' }) (record b { pass = Some q' })
 met_both a b p q p' q' a_is b_is p_is q_is same p_own q_own longer =
     let s = p'.seen in
     let q_now : q' ≡ seen_up_to s q = q_is ∙ ap (λ (l : List Entry). seen_up_to l q) (sym same) in
     let grows : StartsWith s p.seen × StartsWith s q.seen = elim longer [
-      | inl e ↦ (subst (λ (l : List Entry). StartsWith l p.seen) (sym e.1) e.0, subst (λ (l : List Entry). StartsWith l q.seen) (sym e.1) (starts_same q.seen))
-      | inr e ↦ (subst (λ (l : List Entry). StartsWith l p.seen) (sym e.1) (starts_same p.seen), subst (λ (l : List Entry). StartsWith l q.seen) (sym e.1) e.0)
+      | inl e ↦ (subst (λ (l : List Entry). StartsWith l p.seen) (sym e.1) e.0, subst (λ (l : List Entry). StartsWith l q.seen) (sym e.1) (starts-refl q.seen))
+      | inr e ↦ (subst (λ (l : List Entry). StartsWith l p.seen) (sym e.1) (starts-refl p.seen), subst (λ (l : List Entry). StartsWith l q.seen) (sym e.1) e.0)
     ] in
     record {
       seen = s;
@@ -49,7 +43,7 @@ meets_none turn f xs has = record {
   pass = has.pass;
   was = has.there;
   now = has.there;
-  grows = starts_same has.pass.seen;
+  grows = starts-refl has.pass.seen;
   own = λ lt. absurd (omega arith);
   gates = refl;
   said = refl;
@@ -61,7 +55,7 @@ meets_none turn f xs has = record {
 }
 
 met_further : {G : Type 0} (s t : List Entry) (x y : Lane G) → StartsWith t s → MetWithin s x y → MetWithin t x y
-met_further s t x y grows is = record { then_seen = is.then_seen; met = is.met; within = starts-trans is.then_seen s t is.within grows }
+met_further s t x y grows is = record { then_seen = is.then_seen; met = is.met; within = starts-trans t s is.then_seen grows is.within }
 
 -- a fact of the places below n + 1, from those below n and from n
 up_to : (P : ℕ → Type 0) (n k : ℕ) → k < n + 1 → (k < n → P k) → P n → P k
@@ -75,7 +69,7 @@ still_longest s seen f' f'' x x' both is had grows within =
       | inr e ↦
           (let pass_is : within.pass ≡ both.other.pass = some_same _ _ (sym within.there ∙ both.other.was) in
           let back : StartsWith seen s = subst (λ (l : List Entry). StartsWith seen l) (ap (λ (p : RealmPass). p.seen) pass_is ∙ e ∙ is) within.within in
-          starts_both s seen grows back)
+          starts-antisym s seen grows back)
     ]
 
 -- the first one had seen it or one of those that were met, or the one that is met now
@@ -99,14 +93,14 @@ meets_more {G} n f f' f'' xs ys x x' lt long is_x is both =
       pass = is.pass;
       was = is.was;
       now = both.one.now ∙ ap (λ (p : RealmPass). Some (seen_up_to s p)) p_is;
-      grows = starts-trans is.pass.seen is.seen s is.grows grows;
+      grows = starts-trans s is.seen is.pass.seen grows is.grows;
       own = λ _. subst (λ (p : RealmPass). IsOwnPass (seen_up_to s p)) p_is both.one.own;
       gates = both.one.gates ∙ is.gates;
       said = both.one.said ∙ is.said;
       lost = both.one.lost ∙ is.lost;
       met = λ k d lt_k. up_to (λ (k : ℕ). MetWithin s (get_or xs k d) (get_or (set ys n x') k d)) n k lt_k
           (λ less. subst (λ (y : Lane G). MetWithin s (get_or xs k d) y) (sym (there k d (differs k n less))) (met_further is.seen s _ _ grows (is.met k d less)))
-          (record { then_seen = s; met = met_here d; within = starts_same s });
+          (record { then_seen = s; met = met_here d; within = starts-refl s });
       rest = λ k d le. there k d (above k n le) ∙ is.rest k d (omega arith);
       among = among_more n is.seen s is.pass.seen xs
           (elim both.longer [
@@ -139,7 +133,7 @@ met_trans s t x y z a b =
       pass = a.pass;
       was = a.was;
       now = b.now ∙ ap (λ (p : RealmPass). Some (seen_up_to t p)) p_is;
-      grows = starts-trans a.pass.seen s t a.grows (subst (λ (p : RealmPass). StartsWith t p.seen) p_is b.grows);
+      grows = starts-trans t s a.pass.seen (subst (λ (p : RealmPass). StartsWith t p.seen) p_is b.grows) a.grows;
       own = subst (λ (p : RealmPass). IsOwnPass (seen_up_to t p)) p_is b.own;
       gates = b.gates ∙ a.gates;
       said = b.said ∙ a.said;

@@ -24,6 +24,7 @@ use Rattle.cm_world.specs.After.{with_end_of, moved}
 use Rattle.cm_world.proofs.trees.Finding.{none_some, some_same}
 use Rattle.cm_laws.specs.Lasting.{begun_by}
 use Rattle.cm_laws.proofs.actions.Ends.{end_idle}
+use Rattle.cm_laws.proofs.sound.Expiries.{doom_pending}
 
 -- an action of that number was begun
 abbrev pub IsKnown : List Act → ℕ → Type 0
@@ -132,10 +133,6 @@ module _ (acts : List Act) where
       (idle_changed i (λ r. set_decl url d (set_pending None r)) rows (λ r. refl) all) (kids_known i next d.children)
   known_ended i next (Resolved url d) o rows all = idle_changed i (end_row o) rows (end_idle o) all
 
-  doom_keeps : (b : Bool) (r : Row) → (cond b (set_doomed r) r).pending ≡ r.pending
-  doom_keeps true r = refl
-  doom_keeps false r = refl
-
   known_map : (g : Row → Row) → ((r : Row) → (g r).pending ≡ r.pending) → (rows : List Row) → AreKnown acts rows → AreKnown acts (map g rows)
   unfolding AreKnown
   known_map g same [] all = tt
@@ -144,7 +141,7 @@ module _ (acts : List Act) where
   known_expired : (i : ℕ) (rows : List Row) → AreKnown acts rows → AreKnown acts (expired i rows)
   known_expired i rows all =
       known_map (λ r. cond (goes_with rows i r && not r.doomed) (set_doomed r) r)
-      (λ r. doom_keeps (goes_with rows i r && not r.doomed) r) rows all
+      (λ r. doom_pending (goes_with rows i r && not r.doomed) r) rows all
 
   expired_if : (b : Bool) (i : ℕ) (rows : List Row) → AreKnown acts rows → AreKnown acts (cond b (expired i rows) rows)
   expired_if true i rows all = known_expired i rows all

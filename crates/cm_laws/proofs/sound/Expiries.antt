@@ -73,6 +73,11 @@ pub record Went (rows : List Row) (j : ℕ) (s : Row) : Type 0 where
   pub was : row_of rows j ≡ Some row
   pub is : (s ≡ row) ⊎ ((is_dynamic row ≡ true) × (s ≡ set_doomed row))
 
+-- a row that may be marked keeps what is pending there
+pub doom_pending : (t : Bool) (r : Row) → (cond t (set_doomed r) r).pending ≡ r.pending
+doom_pending true r = refl
+doom_pending false r = refl
+
 module _ (rows : List Row) (i : ℕ) where
   abbrev goes : Row → Bool
   goes r = goes_with rows i r && not r.doomed
@@ -137,10 +142,6 @@ module _ (rows : List Row) (i : ℕ) where
   pending_by : (acts : List Act) (j a : ℕ) (kind : ActKind) (r s : Row) → (s ≡ r) ⊎ ((is_dynamic r ≡ true) × (s ≡ set_doomed r)) → s.pending ≡ Some (kind, a) → r.pending ≡ Some (kind, a)
   pending_by acts j a kind r s (inl same) e = sym (ap (λ z. z.pending) same) ∙ e
   pending_by acts j a kind r s (inr own) e = sym (ap (λ z. z.pending) own.1) ∙ e
-
-  doom_pending : (t : Bool) (r : Row) → (cond t (set_doomed r) r).pending ≡ r.pending
-  doom_pending true r = refl
-  doom_pending false r = refl
 
   doom_decl : (t : Bool) (r : Row) → (cond t (set_doomed r) r).decl ≡ r.decl
   doom_decl true r = refl

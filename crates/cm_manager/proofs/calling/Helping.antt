@@ -17,9 +17,10 @@ use Rattle.cm_manager.specs.ClosedInside.{joins, empty, plain, acted, awaited}
 use Rattle.cm_manager.specs.Contract.{RealmPass, GatesView, IsSamePass, IsSubcall}
 use Rattle.cm_manager.specs.Work.{begins, is_end, Manifests, Works, nothing, passes, ends, WorksWith}
 use Rattle.cm_manager.specs.Doing.{Did}
-use Rattle.cm_manager.proofs.calling.Joining.{starts-trans, works-append}
+use Rattle.cm_manager.proofs.calling.Joining.{works-append}
 use Rattle.cm_manager.proofs.left.Closing.{closed-append}
 use Rattle.cm_manager.proofs.calling.Counting.{works_with}
+use Rattle.cm_turn.proofs.Histories.{starts-trans}
 
 -- ---- passes
 
@@ -28,7 +29,7 @@ same_trans f p q r pq qr = record {
   lock = qr.lock ∙ pq.lock;
   frame = qr.frame ∙ pq.frame;
   caller = qr.caller ∙ pq.caller;
-  seen = starts-trans p.seen q.seen r.seen pq.seen qr.seen;
+  seen = starts-trans r.seen q.seen p.seen qr.seen pq.seen;
   own = qr.own;
   legal = qr.legal;
 }

@@ -1,20 +1,17 @@
 -- How ways and parts are put together.
-use Rattle.std.proofs.Common.{◌≡◌, ◌⊎◌, ℕ, List, [], ◌∷◌, ◌++◌, Some, None, Option, refl, sym, ap, ◌∙◌, append_assoc, subst, inl, inr}
+use Rattle.std.proofs.Common.{◌≡◌, ◌⊎◌, ℕ, List, [], ◌∷◌, ◌++◌, Some, None, Option, refl, sym, ◌∙◌, append_assoc, subst, inl, inr}
 use Rattle.cm_world.specs.declared.frame.Frame.{Frame}
 use Rattle.cm_world.specs.declared.reply.Entry.{Entry}
 use Rattle.cm_world.specs.declared.answer.Refusal.{Refusal}
-use Rattle.cm_turn.specs.History.{StartsWith}
 use Rattle.cm_manager.specs.Turns.{IsLaterHistory, AddsOneEntry, AddsWithinRoom}
 use Rattle.cm_manager.specs.Runs.{StartsEager, next_one, cut_at}
 use Rattle.cm_gate.specs.declared.asked.GateCall.{GateCall}
 use Rattle.cm_manager.specs.Work.{Manifests, Works, nothing, passes, ends}
-
-pub starts-trans : (a b d : List Entry) → StartsWith b a → StartsWith d b → StartsWith d a
-starts-trans a b d ab bd = (ab.0 ++ bd.0, bd.1 ∙ ap (λ (x : List Entry). x ++ bd.0) ab.1 ∙ append_assoc a ab.0 bd.0)
+use Rattle.cm_turn.proofs.Histories.{starts-trans}
 
 -- turns without an entry change nothing
 pub later-trans : (c : ℕ) (a b d : List Entry) → IsLaterHistory c a b → IsLaterHistory c b d → IsLaterHistory c a d
-later-trans c a b d ab bd = record { grows = starts-trans a b d ab.grows bd.grows; own = bd.own ∙ ab.own }
+later-trans c a b d ab bd = record { grows = starts-trans d b a bd.grows ab.grows; own = bd.own ∙ ab.own }
 
 pub makes-later : (c : ℕ) (a b d : List Entry) {e : _} {r : _} → IsLaterHistory c a b → AddsOneEntry c b e r d → AddsOneEntry c a e r d
 makes-later c a b d ab m = record { found = m.found; later = later-trans c a b m.found ab m.later; entries = m.entries }

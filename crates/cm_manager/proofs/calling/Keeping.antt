@@ -8,21 +8,19 @@ use Rattle.cm_manager.specs.Turns.{IsLaterHistory}
 use Rattle.cm_manager.specs.ClosedInside.{empty}
 use Rattle.cm_manager.specs.Work.{Manifests}
 use Rattle.cm_manager.specs.Contract.{RealmPass, GatesView, IsSubcall}
-use Rattle.cm_manager.proofs.calling.Joining.{later-trans, starts-trans}
+use Rattle.cm_manager.proofs.calling.Joining.{later-trans}
 use Rattle.cm_manager.proofs.left.Closing.{closed-append}
 use Rattle.cm_manager.proofs.calling.Helping.{works_nothing, works_trans}
 use Rattle.cm_manager.specs.Done.{Done, PerformsCommands, rests, performs}
 use Rattle.cm_manager.specs.Kept.{IsOwnPass, KeepsPass}
-
-pub starts_same : (a : List Entry) → StartsWith a a
-starts_same a = ([], sym (append-nil a))
+use Rattle.cm_turn.proofs.Histories.{starts-refl, starts-trans}
 
 pub keeps_nothing : (manifests : Manifests) (p : RealmPass) (g : GatesView) → IsOwnPass p → KeepsPass manifests p p g g
 keeps_nothing manifests p g own = record {
   lock = refl;
   frame = refl;
   caller = refl;
-  seen = starts_same p.seen;
+  seen = starts-refl p.seen;
   own = sym own;
   part = [];
   mine = sym (append-nil p.mine);
@@ -39,7 +37,7 @@ keeps_trans manifests p q r g h k a b = record {
   lock = b.lock ∙ a.lock;
   frame = b.frame ∙ a.frame;
   caller = b.caller ∙ a.caller;
-  seen = starts-trans p.seen q.seen r.seen a.seen b.seen;
+  seen = starts-trans r.seen q.seen p.seen b.seen a.seen;
   own = b.own;
   part = a.part ++ b.part;
   mine = mine_then p.mine q.mine r.mine a.part b.part a.mine b.mine;
@@ -67,7 +65,7 @@ keeps_met manifests p q s g h is grows own = record {
   lock = is.lock;
   frame = is.frame;
   caller = is.caller;
-  seen = starts-trans p.seen q.seen s is.seen grows;
+  seen = starts-trans s q.seen p.seen grows is.seen;
   own = sym own;
   part = is.part;
   mine = is.mine;

@@ -17,7 +17,7 @@ use Rattle.cm_manager.specs.Sweeps.{Stops, Removes, Clears, Sweeps}
 use Rattle.cm_manager.specs.Runs.{RunsAction, ended, started, started_cut, stopped, stopped_cut, joined, quiet, resolved_first, not_resolved, cut, StartsEager, all_done, next_one, cut_at, is_quiet}
 use Rattle.cm_manager.specs.Work.{begins}
 use Rattle.cm_manager.specs.ClosedInside.{joins, IsClosed, empty, plain, acted, awaited, AddsClosedPart}
-use Rattle.cm_manager.proofs.calling.Joining.{starts-trans}
+use Rattle.cm_turn.proofs.Histories.{starts-trans}
 
 pub closed-append : (p q : List Entry) → IsClosed p → IsClosed q → IsClosed (p ++ q)
 closed-append p q empty b = b
@@ -28,7 +28,7 @@ closed-append p q (awaited is end rest) b = IsClosed.awaited is end (closed-appe
 pub grows-trans : (c : ℕ) (a b d : List Entry) → AddsClosedPart c a b → AddsClosedPart c b d → AddsClosedPart c a d
 grows-trans c a b d ab bd = record {
   part = ab.part ++ bd.part;
-  grows = starts-trans a b d ab.grows bd.grows;
+  grows = starts-trans d b a bd.grows ab.grows;
   own = bd.own ∙ ap (λ (x : List Entry). x ++ bd.part) ab.own ∙ append_assoc (own_entries c a) ab.part bd.part;
   closed = closed-append ab.part bd.part ab.closed bd.closed;
 }
@@ -38,7 +38,7 @@ pub makes-own : (c : ℕ) (a b : List Entry) (e : Event) (r : Reply) → AddsOne
 makes-own c a b e r m =
     let x : Entry = record { caller = c; event = e; reply = r } in
     let one : own_entries c (x ∷ []) ≡ x ∷ [] = search rules in (
-      starts-trans a m.found b m.later.grows (x ∷ [], m.entries),
+      starts-trans b m.found a (x ∷ [], m.entries) m.later.grows,
       ap (own_entries c) m.entries ∙ filter-append (λ (y : Entry). y.caller == c) m.found (x ∷ []) ∙ ap (λ (l : List Entry). l ++ own_entries c (x ∷ [])) m.later.own ∙ ap (λ (l : List Entry). own_entries c a ++ l) one,
     )
 
@@ -56,7 +56,7 @@ two c a b d e e' r r' m n closed =
     let p = makes-own c b d e' r' n in
     record {
       part = record { caller = c; event = e; reply = r } ∷ record { caller = c; event = e'; reply = r' } ∷ [];
-      grows = starts-trans a b d o.0 p.0;
+      grows = starts-trans d b a p.0 o.0;
       own = p.1 ∙ ap (λ (l : List Entry). l ++ record { caller = c; event = e'; reply = r' } ∷ []) o.1 ∙ append_assoc (own_entries c a) (record { caller = c; event = e; reply = r } ∷ []) (record { caller = c; event = e'; reply = r' } ∷ []);
       closed = closed;
     }
@@ -71,7 +71,7 @@ cut-later f c a b e refusal.Memory l = l
 cut-later f c a b e refusal.HistoryFull l = l.0
 cut-later f c a b e _ l = absurd l
 
-later-self : (c : ℕ) (h : List Entry) → IsLaterHistory c h h
+pub later-self : (c : ℕ) (h : List Entry) → IsLaterHistory c h h
 later-self c h = record { grows = ([], sym (append-nil h)); own = refl }
 
 -- each stop that was picked has its End

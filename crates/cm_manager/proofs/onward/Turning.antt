@@ -26,8 +26,9 @@ use Rattle.cm_steps.specs.declared.nostep.NoStep.TheVariants as nostep
 use Rattle.cm_manager.specs.Turns.{world_after, own_entries, wanted, need, IsLaterHistory, AddsOneEntry, AddsWithinRoom, EndsWithoutEntry}
 use Rattle.cm_manager.specs.Contract.{RealmPass, IsSamePass}
 use Rattle.cm_manager.specs.Asking.{frame_in, frame_of, RefusesRoom, StepsBy, AwaitsBy, IsBusy, Turned, RecordsEvent, Awaited, RecordsOutcome}
-use Rattle.cm_manager.proofs.calling.Joining.{starts-trans, later-trans, makes-later, asks-later}
+use Rattle.cm_manager.proofs.calling.Joining.{later-trans, makes-later, asks-later}
 use Rattle.cm_manager.proofs.left.Standing.{ends_later, joins_later}
+use Rattle.cm_turn.proofs.Histories.{starts-trans}
 
 -- ---- a step
 
@@ -98,7 +99,7 @@ same_pass p q s t more is = record {
   lock = is.left.lock;
   frame = is.left.frame;
   caller = is.left.caller;
-  seen = subst (λ (l : List Entry). StartsWith l p.seen) (sym is.left.seen) (starts-trans p.seen s.entries t.entries is.entered.begins (more, is.goes.entries));
+  seen = subst (λ (l : List Entry). StartsWith l p.seen) (sym is.left.seen) (starts-trans t.entries s.entries p.seen (more, is.goes.entries) is.entered.begins);
   own = sym is.left.own;
   legal = subst (λ (f : Frame). Legal (start f) q.seen) (sym (ap frame_in is.entered.frame)) (subst (Legal (start s.frame)) (sym is.left.seen) is.goes.legal);
 }
@@ -283,7 +284,7 @@ waits_same first idle after w same = record {
   lock = same.lock ∙ w.lock;
   frame = same.frame ∙ w.frame;
   caller = same.caller ∙ w.caller;
-  seen = starts-trans first.seen idle.seen after.seen w.later.grows same.seen;
+  seen = starts-trans after.seen idle.seen first.seen same.seen w.later.grows;
   own = same.own;
   legal = subst (λ (f : Frame). Legal (start f) after.seen) (ap frame_in w.frame) same.legal;
 }

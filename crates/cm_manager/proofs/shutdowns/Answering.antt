@@ -34,10 +34,10 @@ use Rattle.cm_manager.specs.Turns.{world_after}
 use Rattle.cm_manager.specs.Work.{Manifests}
 use Rattle.cm_manager.proofs.left.Closing.{makes-own}
 use Rattle.cm_manager.proofs.left.Due.{leaving_stays, marked_stays}
-use Rattle.cm_manager.proofs.calling.Joining.{starts-trans}
 use Rattle.cm_manager.proofs.left.Closing.{stops_close}
 use Rattle.cm_manager.proofs.shutdowns.ShuttingDown.{destroys_close, shuts_close, unmarked_not}
 use Rattle.cm_manager.proofs.left.Standing.{last_step, told}
+use Rattle.cm_turn.proofs.Histories.{starts-trans}
 
 -- ---- a row that is removed
 
@@ -92,7 +92,7 @@ stops_over stays done f c t {a} {b} legal leaving (Stops.was_off {h₁ = h} asks
     stops_over stays done f c t legal (leaving_stays stays f t a h prefix (makes-own c a h _ _ asks.made).0 leaving) rest
 stops_over stays done f c t {a} {b} legal leaving (Stops.was_on {h₁ = g} {h₂ = h} asks makes rest) =
     let prefix : Legal (start f) h = prefix_legal f h b legal (stops_close f c t rest).grows in
-    stops_over stays done f c t legal (leaving_stays stays f t a h prefix (starts-trans a g h (makes-own c a g _ _ asks.made).0 (makes-own c g h _ _ makes).0) leaving) rest
+    stops_over stays done f c t legal (leaving_stays stays f t a h prefix (starts-trans h g a (makes-own c g h _ _ makes).0 (makes-own c a g _ _ asks.made).0) leaving) rest
 
 pub shuts_over : MarksMark → MarksStay → DoneIsOver → (f : Frame) (c : ℕ) (doom : Bool) (i : ℕ) {a b : List Entry} → Legal (start f) b → Shuts f c doom i a b None → IsMarked doom (world_after f b) i × IsShutBelow (world_after f b) i
 unfolding world_of IsLegal

@@ -1,5 +1,5 @@
 -- What a start comes to by its begin, and behind it.
-use Rattle.std.proofs.Common.{◌≡◌, ◌≢◌, inl, inr, ℕ, List, [], ◌∷◌, ◌++◌, Bool, ◌||◌, Option, Some, None, Result, Ok, Err, IsFalse, refl, sym, ap, subst, ◌∙◌, append-nil}
+use Rattle.std.proofs.Common.{◌≡◌, ◌≢◌, inl, inr, ℕ, List, [], ◌∷◌, ◌++◌, Bool, ◌||◌, Option, Some, None, Result, Ok, Err, IsFalse, refl, sym, ap, subst, ◌∙◌}
 use Rattle.cm_world.specs.declared.action.ActKind.{ActKind}
 use Rattle.cm_world.specs.declared.action.ActKind.TheVariants as kind
 use Rattle.cm_world.specs.declared.action.Outcome.{Outcome}
@@ -11,7 +11,7 @@ use Rattle.cm_world.specs.declared.frame.Frame.{Frame}
 use Rattle.cm_world.specs.declared.reply.Entry.{Entry}
 use Rattle.cm_world.specs.declared.reply.Reply.TheVariants as reply
 use Rattle.cm_world.specs.Expiring.{is_stopped}
-use Rattle.cm_manager.specs.Turns.{IsLaterHistory, AddsWithinRoom}
+use Rattle.cm_manager.specs.Turns.{AddsWithinRoom}
 use Rattle.cm_answers.specs.Answers.{ends_call}
 use Rattle.cm_manager.specs.Runs.{RunsAction, StartsEager, is_started, is_followed}
 use Rattle.cm_manager.specs.Acting.{EndsBegun, Joins, StartsBy}
@@ -20,6 +20,7 @@ use Rattle.cm_answers.specs.declared.acted.ActionResult.TheVariants as acted
 use Rattle.cm_manager.specs.declared.began.Launch.{Launch}
 use Rattle.cm_manager.specs.declared.began.Launch.TheVariants as launch
 use Rattle.cm_manager.proofs.calling.Joining.{eagers-split}
+use Rattle.cm_manager.proofs.left.Closing.{later-self}
 
 -- ---- one begin
 
@@ -60,13 +61,10 @@ resolved_start f c i j went (launch.Children n eager) a b d e asks acts fine sta
 
 -- ---- behind a start
 
-later_self : (c : ℕ) (a : List Entry) → IsLaterHistory c a a
-later_self c a = record { grows = ([], sym (append-nil a)); own = refl }
-
 -- memory is wanting for the list of the eager children
 pub wanting_start : (f : Frame) (c i n : ℕ) (eager : List ℕ) (a b : List Entry) → eager ≢ [] → StartsBy f c i (launch.Children n eager) a b → RunsAction f c kind.Start i a b (Err refusal.Memory)
 wanting_start f c i n [] a b some starts = absurd (some refl)
-wanting_start f c i n (e ∷ es) a b some starts = starts b (Some refusal.Memory) (StartsEager.cut_at (RunsAction.cut {k = kind.Start} {i = e} (later_self c b)) refl)
+wanting_start f c i n (e ∷ es) a b some starts = starts b (Some refusal.Memory) (StartsEager.cut_at (RunsAction.cut {k = kind.Start} {i = e} (later-self c b)) refl)
 
 -- ---- rows that are left
 

@@ -16,7 +16,7 @@ use Rattle.cm_decl.specs.declared.node.Node.{Node}
 use Rattle.cm_decl.specs.declared.node.Node.TheVariants.{Own, Child}
 use Rattle.cm_decl.specs.Same.{same_child, same_node}
 use Rattle.cm_decl.specs.Graph.{is_node, static_name, static_node, dynamic_node, gives_of}
-use Rattle.cm_decl.proofs.Sameness.{never, same_node-refl, same_child_exact}
+use Rattle.cm_decl.proofs.Sameness.{never, same_node-refl, same_child_exact, named}
 use Rattle.cm_world.specs.declared.row.Row.{Row}
 use Rattle.cm_world.specs.Rows.{row_of, decl_of, has_parent, has_name, child_of}
 use Rattle.cm_world.specs.RowsInside.{is_behind}
@@ -40,9 +40,6 @@ some_name (Some b) c h = ap Some (same_child_exact b c h)
 
 name_some : (o : Option ChildName) (c : ChildName) → o ≡ Some c → IsTrue (option_eq same_child o (Some c))
 name_some o c e = subst (λ z. IsTrue (option_eq same_child z (Some c))) (sym e) (child_refl c)
-
-named : Option (List ℕ) → List ℕ → ChildName
-named coll name = record { coll = coll; name = name }
 
 static_same : (c : ChildName) → c.coll ≡ None → c ≡ static_name c.name
 unfolding named

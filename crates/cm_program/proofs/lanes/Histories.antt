@@ -19,7 +19,6 @@ use Rattle.cm_manager.specs.Asking.{no_frame, frame_in, frame_of}
 use Rattle.cm_manager.specs.Contract.{RealmPass}
 use Rattle.cm_manager.specs.Managers.{BearsPassesOut}
 use Rattle.cm_manager.specs.Work.{Manifests, WorksWith}
-use Rattle.cm_manager.proofs.calling.Joining.{starts-trans}
 use Rattle.cm_manager.proofs.left.Standing.{rest_of_others}
 use Rattle.cm_lanes.specs.declared.said.Lanes.{Lanes}
 use Rattle.cm_lanes.specs.Script.{AnsweredLine, ArePhases, none_left, one_first}
@@ -28,12 +27,13 @@ use Rattle.cm_lanes.specs.Lanes.{RanLanes}
 use Rattle.cm_lanes.proofs.ends.Ending.{phases_same}
 use Rattle.cm_program.specs.Headline.{MakesHistory, WorksEach}
 use Rattle.cm_program.proofs.lanes.Sixteen.{no_entries, all_prefix, all_behind, pass_of, caller_low, sixteen_new, IsNew, all_new}
+use Rattle.cm_turn.proofs.Histories.{starts-trans}
 
 -- ---- phases
 
 pub phases_grow : {frames : ℕ → Frame} {answered : List (List AnsweredLine)} {a b : List Entry} → ArePhases frames answered a b → StartsWith b a
 phases_grow {a = a} none_left = ([], sym (append-nil a))
-phases_grow {a = a} {b = b} (one_first {h₁ = m} phase rest) = starts-trans a m b phase.grows (phases_grow rest)
+phases_grow {a = a} {b = b} (one_first {h₁ = m} phase rest) = starts-trans b m a (phases_grow rest) phase.grows
 
 -- ---- the history
 

@@ -13,18 +13,17 @@ use Rattle.cm_command.specs.declared.script.Line.{Line}
 use Rattle.cm_manager.specs.Calls.{RunsOrLoses}
 use Rattle.cm_manager.specs.Done.{Done}
 use Rattle.cm_manager.specs.Done as done
-use Rattle.cm_manager.proofs.calling.Joining.{starts-trans}
-use Rattle.cm_manager.proofs.calling.Keeping.{starts_same}
 use Rattle.cm_session.specs.declared.served.Back.{Back}
 use Rattle.cm_session.specs.Links.{LinkView}
 use Rattle.cm_session.specs.LineOutcome.{done_of}
 use Rattle.cm_lanes.specs.Script.{AnsweredLine, answered_lines, answers_of, PerformsLines, rests, performs, ArePhases, none_left, one_first}
 use Rattle.cm_lanes.specs.ScriptInside.{IsFit}
-use Rattle.cm_journal.proofs.Growing.{calls_grow}
 use Rattle.cm_program.specs.Sessions.{FollowsEach, SessionRecord, sats_by}
 use Rattle.cm_program.specs.Unfailing.{IsUnfailing, AreUnfailing}
 use Rattle.cm_program.proofs.unfailing.Ends.{OfEnds}
 use Rattle.cm_program.proofs.unfailing.Results.{calls, within}
+use Rattle.cm_turn.proofs.Histories.{starts-refl, starts-trans}
+use Rattle.cm_lanes.proofs.lines.Parting.{calls_grow}
 
 abbrev OfAnswer : AnsweredLine → Type 0
 OfAnswer a = IsUnfailing a.result
@@ -40,7 +39,7 @@ module _ (f : Frame) (c : ℕ) where
 
   follows_grow : {xs : List AnsweredLine} {a b : List Entry} → PerformsLines f c xs a b → StartsWith b a
   follows_grow (rests l) = l.grows
-  follows_grow (performs {a = x} call rest) = starts-trans _ _ _ (calls_grow f c x.line.command _ _ _ call) (follows_grow rest)
+  follows_grow (performs {a = x} call rest) = starts-trans _ _ _ (follows_grow rest) (calls_grow f c x.line.command _ _ _ call)
 
   follows : {xs : List AnsweredLine} {a b : List Entry} → PerformsLines f c xs a b → All OfEnds b → All OfAnswer xs
   follows (rests l) h = All-nil OfAnswer
@@ -59,7 +58,7 @@ module _ (f : Frame) (c : ℕ) where
 
   done_grow : {ds : List Done} {a b : List Entry} → done.PerformsCommands f c ds a b → StartsWith b a
   done_grow (done.PerformsCommands.rests l) = l.grows
-  done_grow (done.PerformsCommands.performs {d = d} call rest) = starts-trans _ _ _ (goes_grow d.command _ _ d.result call) (done_grow rest)
+  done_grow (done.PerformsCommands.performs {d = d} call rest) = starts-trans _ _ _ (done_grow rest) (goes_grow d.command _ _ d.result call)
 
   done_well : {ds : List Done} {a b : List Entry} → done.PerformsCommands f c ds a b → All OfEnds b → All OfDone ds
   done_well (done.PerformsCommands.rests l) h = All-nil OfDone
@@ -68,7 +67,7 @@ module _ (f : Frame) (c : ℕ) where
 
   each_grow : {sats : List SessionRecord} {a b : List Entry} → FollowsEach f c sats a b → StartsWith b a
   each_grow (FollowsEach.none_left l) = l.grows
-  each_grow (FollowsEach.one_first one rest) = starts-trans _ _ _ (done_grow one) (each_grow rest)
+  each_grow (FollowsEach.one_first one rest) = starts-trans _ _ _ (each_grow rest) (done_grow one)
 
   pub each_well : {sats : List SessionRecord} {a b : List Entry} → FollowsEach f c sats a b → All OfEnds b → All OfSat sats
   each_well (FollowsEach.none_left l) h = All-nil OfSat
@@ -93,8 +92,8 @@ module _ (P : AnsweredLine → Type 0) where
       (by_lanes xs (All-tail IsFit a.line (answered_lines xs) few) (λ c lt. other_of (a.line.lane == c) c a xs refl (each c lt)))
 
 phases_grow : (f : Frame) {answered : List (List AnsweredLine)} {a b : List Entry} → ArePhases (λ c. f) answered a b → StartsWith b a
-phases_grow f none_left = starts_same _
-phases_grow f (one_first phase rest) = starts-trans _ _ _ phase.grows (phases_grow f rest)
+phases_grow f none_left = starts-refl _
+phases_grow f (one_first phase rest) = starts-trans _ _ _ (phases_grow f rest) phase.grows
 
 abbrev pub AreFit : List Line → Type 0
 AreFit lines = All IsFit lines

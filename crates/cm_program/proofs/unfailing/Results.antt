@@ -37,9 +37,9 @@ use Rattle.cm_manager.specs.Streams.{Streams, streamed_by}
 use Rattle.cm_manager.specs.Calls.{CallWay, Finding, GoesOnWithRow, OnRow, CallsEvent, Nothing, Then, CallsEventThen, OnceCreated, SweptLeft, CallsAction, Calls}
 use Rattle.cm_manager.proofs.left.Closing.{sweeps_close}
 use Rattle.cm_manager.proofs.shutdowns.ShuttingDown.{shuts_close, destroys_close}
-use Rattle.cm_journal.proofs.Growing.{Growing, Following, behind_grows, then_grows, acted_grows, tried_grows, tried_then_grows, created_grows, left_grows, doctors_grow, streams_grow, each_grows, row_grows, tries_grow}
 use Rattle.cm_program.specs.Unfailing.{is_failed, IsUnfailingRefusal, IsUnfailingFound, IsUnfailingAnswer, IsUnfailing}
 use Rattle.cm_program.proofs.unfailing.Ends.{OfEnds}
+use Rattle.cm_lanes.proofs.lines.Parting.{Growing, Following, tries_grow, behind_grows, tried_grows, created_grows, left_grows, then_grows, tried_then_grows, acted_grows, each_grows, row_grows, doctors_grow, streams_grow}
 
 abbrev AllEnds : List Entry → Type 0
 AllEnds es = All OfEnds es

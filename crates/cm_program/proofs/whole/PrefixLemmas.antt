@@ -1,5 +1,5 @@
 -- What the prefix of a text says of the whole: what was read of a source is known of all that it had left.
-use Rattle.std.proofs.Common.{◌≡◌, ◌⊎◌, inl, inr, ℕ, ◌+◌, ◌<◌, ◌≤◌, min, List, [], ◌∷◌, ◌++◌, length, Bool, true, false, cond, ◌==◌, Option, Some, None, refl, sym, ap, subst, ◌∙◌, arith, rules, length-append, lit≤}
+use Rattle.std.proofs.Common.{◌≡◌, ◌⊎◌, inl, inr, ℕ, ◌+◌, ◌<◌, ◌≤◌, min, List, [], ◌∷◌, ◌++◌, length, Bool, true, false, cond, ◌==◌, Option, Some, None, sym, ap, subst, ◌∙◌, arith, rules, length-append, lit≤}
 use Rattle.std.proofs.Math.Nat.{min-eq_left, min-eq_right, min-le_left, min-le_right}
 use Rattle.std.proofs.lemmas.List.{append-nil}
 use Rattle.std.specs.Io.KnownBytes.{Consumes, IsAtEnd}
@@ -14,6 +14,7 @@ use Rattle.cm_program.specs.Stock.{LoadsScript, RefusesScript, IsScriptRefusal}
 use Rattle.cm_program.specs.declared.stock.LoadedScript.{LoadedScript}
 use Rattle.cm_program.specs.declared.fault.ScriptRefusal.{ScriptRefusal}
 use Rattle.cm_program.specs.declared.fault.ScriptRefusal.TheVariants.{Unread, Unserved, Memory}
+use Rattle.cm_audit.proofs.Prefixes.{Goes, lines_go}
 
 -- ---- the bytes of lines
 
@@ -67,27 +68,6 @@ pub served_ended : (bytes : List ℕ) (served : LoadedScript) (left : Option (Li
 served_ended bytes served left all h = all (omega (arith, script_within bytes h.script h.reads))
 
 -- ---- a fault of a prefix that passes the limit by far is one of the whole
-
--- the second lines go on where the first end
-abbrev pub Goes : List (List ℕ) → List (List ℕ) → Type 0
-Goes [] us = Unit {0}
-Goes (t ∷ ts) [] = ⊥
-Goes (t ∷ ts) (u ∷ us) = ((t ≡ u) × Goes ts us) ⊎ ((ts ≡ []) × (length t ≤ length u))
-
-in_prefix_goes : (b : ℕ) (ts us : List (List ℕ)) → Goes ts us → Goes (in_prefix b ts) (in_prefix b us)
-in_prefix_goes b [] [] h = inl (refl, tt)
-in_prefix_goes b [] (u ∷ us) h = inr (refl, grind (arith, rules))
-in_prefix_goes b (t ∷ ts) [] h = absurd h
-in_prefix_goes b (t ∷ ts) (u ∷ us) (inl e) = inl (ap (λ x. b ∷ x) e.0, e.1)
-in_prefix_goes b (t ∷ ts) (u ∷ us) (inr e) = inr (e.0, let le : length t ≤ length u = e.1 in grind (arith, rules))
-
-lines_go : (prefix rest : List ℕ) → Goes (lines_of prefix) (lines_of (prefix ++ rest))
-lines_go [] rest = tt
-lines_go (b ∷ bs) rest = by (b == 10) (lines_go bs rest)
-  where
-    by : (v : Bool) → Goes (lines_of bs) (lines_of (bs ++ rest)) → Goes (cond v ([] ∷ lines_of bs) (in_prefix b (lines_of bs))) (cond v ([] ∷ lines_of (bs ++ rest)) (in_prefix b (lines_of (bs ++ rest))))
-    by true ih = inl (refl, ih)
-    by false ih = in_prefix_goes b (lines_of bs) (lines_of (bs ++ rest)) ih
 
 -- the line that passes the limit is too long, wherever it ends
 too_far : (size place : ℕ) (t : List ℕ) (ts : List (List ℕ)) → ts ≡ [] → script_limit + 65537 < size → size ≤ place + total (t ∷ ts) → place ≤ script_limit → line_limit < length t

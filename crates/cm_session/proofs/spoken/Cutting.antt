@@ -1,9 +1,9 @@
 -- Lemmas on bytes that are cut where a line ends.
-use Rattle.std.proofs.Common.{◌≡◌, ◌≢◌, ◌<◌, ◌⊎◌, inl, inr, ℕ, suc, true, List, [], ◌∷◌, ◌++◌, length, length-append, refl, ap, sym, ◌∙◌, append_assoc, append-nil, arith}
+use Rattle.std.proofs.Common.{◌≡◌, ◌≢◌, ◌<◌, ◌⊎◌, inl, inr, ℕ, true, List, [], ◌∷◌, ◌++◌, length, length-append, refl, ap, sym, ◌∙◌, append_assoc, append-nil, arith}
 use Rattle.std.proofs.lemmas.Bool.Decides.{nat_tests}
 use Rattle.cm_io.specs.Lines.{lines}
 use Rattle.cm_io.specs.LinesInside.{IsFirstLine, IsUnbroken, Reader}
-use Rattle.cm_io.proofs.LineLemmas.{lines-first, lines-last, lines-nil}
+use Rattle.cm_io.proofs.LineLemmas.{lines-first, lines-last, lines-nil, unbroken-tail, unbroken-head}
 use Rattle.cm_reply.specs.Lists.{TextBytes}
 use Rattle.cm_session.specs.Links.{BeginsWithBytes, in_prefix_of_some, whole_lines}
 
@@ -20,12 +20,6 @@ whole-in_prefix byte bytes h = grind (arith, nat_tests)
 whole-ended : (bytes : TextBytes) → whole_lines (10 ∷ bytes) ≡ [] ∷ whole_lines bytes
 unfolding whole_lines
 whole-ended bytes = refl
-
-unbroken-tail : (byte : ℕ) (bytes : TextBytes) → IsUnbroken (byte ∷ bytes) → IsUnbroken bytes
-unbroken-tail byte bytes h = λ k d lt. h (suc k) d (omega arith)
-
-unbroken-head : (byte : ℕ) (bytes : TextBytes) → IsUnbroken (byte ∷ bytes) → byte ≢ 10
-unbroken-head byte bytes h = h 0 0 (omega arith)
 
 whole-unbroken : (bytes : TextBytes) → IsUnbroken bytes → whole_lines bytes ≡ []
 whole-unbroken [] h = whole-nil

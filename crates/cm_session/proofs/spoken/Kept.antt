@@ -7,10 +7,11 @@ use Rattle.cm_manager.specs.Contract.{RealmPass, GatesView}
 use Rattle.cm_manager.specs.Done.{Done, PerformsCommands}
 use Rattle.cm_manager.specs.Kept.{IsOwnPass, KeepsPass}
 use Rattle.cm_manager.specs.Work.{Manifests}
-use Rattle.cm_manager.proofs.calling.Keeping.{keeps_nothing, keeps_trans, starts_same}
+use Rattle.cm_manager.proofs.calling.Keeping.{keeps_nothing, keeps_trans}
 use Rattle.cm_session.specs.Session.{KeepsOrNot}
 use Rattle.cm_session.specs.Steps.{DoesLine}
 use Rattle.cm_session.specs.LineOutcome.{LineOutcome, performed, bad, too_long, done_of}
+use Rattle.cm_turn.proofs.Histories.{starts-refl}
 
 -- ---- the pass and the gates
 
@@ -73,7 +74,7 @@ goes_none f c a = λ rest end follows. follows
 -- all of it
 pub goes_all : (f : Frame) (c : ℕ) (ds : List Done) (a b : List Entry) → GoesOn f c ds a b → PerformsCommands f c ds a b
 goes_all f c ds a b on =
-    subst (λ (l : List Done). PerformsCommands f c l a b) (append-nil ds) (on [] b (PerformsCommands.rests (record { grows = starts_same b; own = refl })))
+    subst (λ (l : List Done). PerformsCommands f c l a b) (append-nil ds) (on [] b (PerformsCommands.rests (record { grows = starts-refl b; own = refl })))
 
 -- what a later pass does, as the first one's caller in its frame
 pub does_as : (manifests : Manifests) (p q r : RealmPass) (g h : GatesView) (t : LineOutcome) → KeepsOrNot manifests p q g h → DoesLine (frame_of q) q.caller t q.seen r.seen → DoesLine (frame_of p) p.caller t q.seen r.seen

@@ -1,11 +1,10 @@
 -- Lemmas on the order in which a session reads and writes.
-use Rattle.std.proofs.Common.{◌≡◌, ◌≢◌, ◌⊎◌, inl, inr, ◌+◌, ℕ, suc, cond, nat_eq, Bool, true, false, true≢false, List, [], ◌∷◌, ◌++◌, length, map, Option, None, Some, refl, ap, sym, ◌∙◌, subst, append_assoc, append-nil, length-append, arith}
-use Rattle.std.proofs.lemmas.Bool.Decides.{nat_tests}
+use Rattle.std.proofs.Common.{◌≡◌, ◌≢◌, ◌⊎◌, inl, inr, ◌+◌, suc, true, false, true≢false, List, [], ◌∷◌, ◌++◌, length, map, Option, None, Some, refl, ap, sym, ◌∙◌, subst, append-nil, length-append, arith}
 use Rattle.std.proofs.lemmas.Bool.{cases_Bool}
 use Rattle.std.proofs.lemmas.Option.{none-some}
-use Rattle.cm_io.specs.LinesInside.{IsFirstLine, IsUnbroken, Reader}
-use Rattle.cm_io.specs.Orders.{MovesCame, InStep, Move, ends_in, gave, given_in, hung_up, joined, wrote, written_in}
-use Rattle.cm_io.specs.OrdersInside.{Pulled, PutsInOrder, ReadsUnbroken, WritesPieces}
+use Rattle.cm_io.specs.LinesInside.{IsFirstLine, Reader}
+use Rattle.cm_io.specs.Orders.{MovesCame, InStep, Move, ends_in, gave, given_in, joined, wrote, written_in}
+use Rattle.cm_io.specs.OrdersInside.{Pulled, PutsInOrder, WritesPieces}
 use Rattle.cm_io.specs.declared.output.Put.{Put}
 use Rattle.cm_io.specs.declared.output.Put.TheVariants as put
 use Rattle.cm_io.proofs.Ordering.{came-none, came-trans, joined-more}
@@ -13,54 +12,11 @@ use Rattle.cm_reply.specs.Lists.{TextBytes}
 use Rattle.cm_session.specs.declared.ended.Ended.{Ended}
 use Rattle.cm_session.specs.declared.ended.Ended.TheVariants as ended
 use Rattle.cm_session.specs.Steps.{RepliesInOrder}
+use Rattle.cm_io.proofs.InStep.{ends-append, unbroken-ends, given-append, written-append, given-gave, given-wrote, written-gave, written-wrote, reads-in_step, writes-in_step}
 
 -- ---- how many lines end
 
-ends-append : (xs ys : TextBytes) → ends_in (xs ++ ys) ≡ ends_in xs + ends_in ys
-ends-append [] ys = omega arith
-ends-append (x ∷ xs) ys = by (nat_eq x 10) (ends-append xs ys)
-  where
-    by : (v : Bool) → ends_in (xs ++ ys) ≡ ends_in xs + ends_in ys
-        → cond v (suc (ends_in (xs ++ ys))) (ends_in (xs ++ ys)) ≡ cond v (suc (ends_in xs)) (ends_in xs) + ends_in ys
-    by true ih = omega (arith, ih)
-    by false ih = ih
-
-ends-other : (byte : ℕ) (bytes : TextBytes) → byte ≢ 10 → ends_in (byte ∷ bytes) ≡ ends_in bytes
-ends-other byte bytes h = grind (arith, nat_tests)
-
-unbroken-ends : (bytes : TextBytes) → IsUnbroken bytes → ends_in bytes ≡ 0
-unbroken-ends [] h = refl
-unbroken-ends (byte ∷ bytes) h = ends-other byte bytes (h 0 0 (omega arith)) ∙ unbroken-ends bytes (λ k d lt. h (suc k) d (omega arith))
-
 -- ---- moves one behind another
-
-given-append : (xs ys : List Move) → given_in (xs ++ ys) ≡ given_in xs ++ given_in ys
-given-append [] ys = refl
-given-append (gave piece ∷ xs) ys = ap (λ (l : TextBytes). piece ++ l) (given-append xs ys) ∙ sym (append_assoc piece (given_in xs) (given_in ys))
-given-append (wrote bytes ∷ xs) ys = given-append xs ys
-given-append (hung_up ∷ xs) ys = given-append xs ys
-
-written-append : (xs ys : List Move) → written_in (xs ++ ys) ≡ written_in xs ++ written_in ys
-written-append [] ys = refl
-written-append (gave piece ∷ xs) ys = written-append xs ys
-written-append (wrote bytes ∷ xs) ys = ap (λ (l : TextBytes). bytes ++ l) (written-append xs ys) ∙ sym (append_assoc bytes (written_in xs) (written_in ys))
-written-append (hung_up ∷ xs) ys = written-append xs ys
-
-given-gave : (pieces : List TextBytes) → given_in (map gave pieces) ≡ joined pieces
-given-gave [] = refl
-given-gave (p ∷ pieces) = ap (λ (l : TextBytes). p ++ l) (given-gave pieces)
-
-given-wrote : (pieces : List TextBytes) → given_in (map wrote pieces) ≡ []
-given-wrote [] = refl
-given-wrote (p ∷ pieces) = given-wrote pieces
-
-written-gave : (pieces : List TextBytes) → written_in (map gave pieces) ≡ []
-written-gave [] = refl
-written-gave (p ∷ pieces) = written-gave pieces
-
-written-wrote : (pieces : List TextBytes) → written_in (map wrote pieces) ≡ joined pieces
-written-wrote [] = refl
-written-wrote (p ∷ pieces) = ap (λ (l : TextBytes). p ++ l) (written-wrote pieces)
 
 -- the bytes that moves gave, behind reads and behind writes
 given-reads : (moves : List Move) (pieces : List TextBytes) → given_in (moves ++ map gave pieces) ≡ given_in moves ++ joined pieces
@@ -76,27 +32,6 @@ written-writes : (moves : List Move) (pieces : List TextBytes) → written_in (m
 written-writes moves pieces = written-append moves (map wrote pieces) ∙ ap (λ (l : TextBytes). written_in moves ++ l) (written-wrote pieces)
 
 -- ---- in step
-
--- pieces that are read while no line ends in what is there
-reads-in_step : (replies : List TextBytes) (moves : List Move) (taken : TextBytes) (pieces : List TextBytes) → InStep replies moves → written_in moves ≡ joined replies
-    → ends_in (given_in moves) ≡ length replies + ends_in taken → ReadsUnbroken taken pieces → InStep replies (moves ++ map gave pieces)
-reads-in_step replies moves taken [] s w l r = subst (InStep replies) (sym (append-nil moves)) s
-reads-in_step replies moves taken (p ∷ pieces) s w l r =
-    let none : ends_in taken ≡ 0 = unbroken-ends taken r.0 in
-    let here : ends_in (given_in moves) ≡ length replies = omega (arith, l, none) in
-    let written : written_in (moves ++ gave p ∷ []) ≡ joined replies = written-append moves (gave p ∷ []) ∙ append-nil (written_in moves) ∙ w in
-    let one : ends_in (given_in (moves ++ gave p ∷ [])) ≡ ends_in (given_in moves) + ends_in p =
-    ap ends_in (given-append moves (gave p ∷ []) ∙ ap (λ (x : TextBytes). given_in moves ++ x) (append-nil p)) ∙ ends-append (given_in moves) p in
-    let both : ends_in (taken ++ p) ≡ ends_in taken + ends_in p = ends-append taken p in
-    let lines : ends_in (given_in (moves ++ gave p ∷ [])) ≡ length replies + ends_in (taken ++ p) = omega (arith, one, both, l) in
-    subst (InStep replies) (append_assoc moves (gave p ∷ []) (map gave pieces))
-    (reads-in_step replies (moves ++ gave p ∷ []) (taken ++ p) pieces (InStep.read_on p s w here) written lines r.1)
-
--- pieces of a reply that are written
-writes-in_step : (replies : List TextBytes) (moves : List Move) (pieces : List TextBytes) → InStep replies moves → InStep replies (moves ++ map wrote pieces)
-writes-in_step replies moves [] s = subst (InStep replies) (sym (append-nil moves)) s
-writes-in_step replies moves (p ∷ pieces) s =
-    subst (InStep replies) (append_assoc moves (wrote p ∷ []) (map wrote pieces)) (writes-in_step replies (moves ++ wrote p ∷ []) pieces (InStep.wrote_on p s))
 
 -- ---- what a session has in hand between two lines
 

@@ -14,13 +14,13 @@ use Rattle.cm_laws.specs.Tasks.{IsNumbered, IsTasked}
 use Rattle.cm_steps.specs.Tasks.{is_open_resolve}
 use Rattle.cm_order.specs.Plans.{KnowsNone}
 use Rattle.cm_steps.specs.Inside.{story_of, world_in, LeavesTree, IsRealmInvariant}
-use Rattle.cm_steps.proofs.Planning.{planned_none}
 use Rattle.cm_steps.specs.LastTold.{nothing_told}
 use Rattle.cm_steps.proofs.steps.Telling.{told_none}
 use Rattle.cm_steps.specs.declared.realm.Realm.TheInside.{Inside}
 use Rattle.cm_laws.proofs.actions.Tasks.{tasked_new}
 use Rattle.cm_cache.specs.Beside.{nothing_held}
 use Rattle.cm_steps.proofs.asked.Keepers.{beside_new}
+use Rattle.cm_order.proofs.searches.Reaching.{plan_none}
 
 stands_new : (a : Inside) → a.table ≡ first_tree a.frame.root a.frame.builtins a.frame.limits.rows → a.acts.items ≡ [] → a.joins.items ≡ [] → a.records.book.entries ≡ [] → LeavesTree (story_of a) (world_in a)
 unfolding world_of IsLegal
@@ -55,6 +55,6 @@ kept_new a f frame first acts resolves joins empty held unknown untold =
       numbers = subst (IsNumbered 1) (sym acts) tt;
       tasks = subst (λ xs. IsTasked a.table.rows xs) (sym acts) (subst (λ (t : Tree). IsTasked t.rows []) (sym table) (tasked_new a.frame.root));
       beside = beside_new a.frame a.records.book.entries a.records.keeper (ap (λ (h : History). h.entries) book) held;
-      planned = planned_none a.table.rows a.records.plan unknown;
+      planned = plan_none a.table.rows a.records.plan unknown;
       told = told_none a.table.rows a.records.last untold;
     }

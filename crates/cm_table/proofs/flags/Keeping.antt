@@ -43,6 +43,7 @@ use Rattle.cm_table.proofs.tree.Leaves.{without, not_taken, above_same}
 use Rattle.cm_table.proofs.slots.Rowed.{row_of-slots, rows_append, rows_changed, rows_indexed, rows_same}
 use Rattle.cm_table.proofs.flags.Climbs.{IsTwin, tests_same, none_above, unmarked_changed, marked_changed}
 use Rattle.cm_table.proofs.flags.Flagging.{row_of-slot, slot_of-none, flag-slot, flag-none, flags_zip, flags_edited, flags_dropped, flag_before, flag_behind, rows_alike}
+use Rattle.cm_table.proofs.monikers.Standing.{parents_by}
 
 -- ---- the children of what is flagged
 
@@ -141,17 +142,13 @@ module _ (ss news : List Slot) (next more p : ℕ) (m : MarksAbove) (q : Row) (o
   pub flags_grown : AreFlagged (ss ++ news)
   flags_grown k i = grown_by k i (slot_of ss i) refl
 
-slots_by : (P : Row → Type 0) (ss : List Slot) → EachItem P (rows_in ss) → EachItem (λ s. P s.row) ss
-slots_by P [] all = tt
-slots_by P (s ∷ ss) all = (all.0, slots_by P ss all.1)
-
 child_rows_unmarked : (p next : ℕ) (ks : List Child) → EachItem (IsUnmarkedChild p) (child_rows p next ks)
 child_rows_unmarked p next [] = tt
 child_rows_unmarked p next (c ∷ cs) = (record { under = refl; closing = refl; doomed = refl }, child_rows_unmarked p (next + 1) cs)
 
 -- the slots of declared children
 pub children_unmarked : (p next : ℕ) (ks : List Child) (news : List Slot) → rows_in news ≡ child_rows p next ks → EachItem (λ s. IsUnmarkedChild p s.row) news
-children_unmarked p next ks news e = slots_by (IsUnmarkedChild p) news (subst (EachItem (IsUnmarkedChild p)) (sym e) (child_rows_unmarked p next ks))
+children_unmarked p next ks news e = parents_by (IsUnmarkedChild p) news (subst (EachItem (IsUnmarkedChild p)) (sym e) (child_rows_unmarked p next ks))
 
 -- ---- without a row that has no children
 

@@ -25,7 +25,7 @@ use Rattle.cm_table.specs.Numbering.{IsBare}
 use Rattle.cm_table.specs.Reading.{is_there}
 use Rattle.cm_table.proofs.tree.Leaves.{without}
 use Rattle.cm_table.proofs.lists.Editing.{edited, dropped}
-use Rattle.cm_table.proofs.lists.EachItem.{each_map, each_append, each_edited, each_dropped, each_zip, each_of_edited}
+use Rattle.cm_table.proofs.lists.EachItem.{each_map, each_append, each_edited, each_dropped, each_zip, each_of_edited, both}
 use Rattle.cm_table.proofs.slots.Rowed.{slots_rise}
 use Rattle.cm_table.proofs.indexes.Children.{incs, kids, kids_changed, child_changed, filter_without, filter_fails, child_without, child_doomed, IsNamed, named_row, NoneHas, filter_none, find_none, filter_append, incs_append, kids_left, kids_right, child_left, child_right, none_high, has_by}
 
@@ -214,10 +214,6 @@ slots_by P ss rows e all = down P ss (subst (EachItem (λ r. P r.inc)) (sym e) a
   down : (P : ℕ → Type 0) (ss : List Slot) → EachItem (λ r. P r.inc) (rows_in ss) → EachItem (λ s. P s.row.inc) ss
   down P [] all = tt
   down P (s ∷ ss) all = (all.0, down P ss all.1)
-
-both : {A : Type 0} (P Q : A → Type 0) (ss : List A) → EachItem P ss → EachItem Q ss → EachItem (λ s. P s × Q s) ss
-both P Q [] a b = tt
-both P Q (s ∷ ss) a b = ((a.0, b.0), both P Q ss a.1 b.1)
 
 kept_index : (rows : List Row) (p next : ℕ) (ks : List Child) (s : Slot) → IsIndexed rows next s → (s.row.inc ≡ p → ⊥) → IsIndexed (rows ++ child_rows p next ks) (next + length ks) s
 kept_index rows p next ks s h differ =

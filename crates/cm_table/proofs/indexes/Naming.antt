@@ -76,13 +76,10 @@ drop_above b a (k ∷ ks) =
     ap (λ t. map (λ n. b + n) (cond t ks (k ∷ drop_first (λ n. n == a) ks))) (same_above b k a) ∙ drop_by (b + k == b + a) b k a ks refl (drop_above b a ks)
 
 -- none of them is below the base
-drop_low : (b i : ℕ) (ks : List ℕ) → i < b → drop_first (λ n. n == i) (map (λ n. b + n) ks) ≡ map (λ n. b + n) ks
+pub drop_low : (b i : ℕ) (ks : List ℕ) → i < b → drop_first (λ n. n == i) (map (λ n. b + n) ks) ≡ map (λ n. b + n) ks
 drop_low b i [] low = refl
 drop_low b i (k ∷ ks) low =
     ap (λ t. cond t (map (λ n. b + n) ks) ((b + k) ∷ drop_first (λ n. n == i) (map (λ n. b + n) ks))) (ne_eqb (b + k) i (λ e. absurd (omega arith))) ∙ ap (λ l. (b + k) ∷ l) (drop_low b i ks low)
-
-pub kept_low : (b i : ℕ) (ks : List ℕ) → i < b → map (λ n. b + n) ks ≡ drop_first (λ n. n == i) (map (λ n. b + n) ks)
-kept_low b i ks low = sym (drop_low b i ks low)
 
 -- the first of them that is above a number
 pub all_behind : (b i : ℕ) (ks : List ℕ) → i < b → find (is_behind (Some i)) (map (λ n. b + n) ks) ≡ nth (map (λ n. b + n) ks) 0

@@ -53,15 +53,16 @@ module _ {A : Type 0} where
   each_same R P [] f all = tt
   each_same R P (x ∷ xs) f all = (f x all.0, each_same R P xs f all.1)
 
+  -- what holds of all and what else does hold together
+  pub both : (P Q : A → Type 0) (ss : List A) → EachItem P ss → EachItem Q ss → EachItem (λ s. P s × Q s) ss
+  both P Q [] a b = tt
+  both P Q (s ∷ ss) a b = ((a.0, b.0), both P Q ss a.1 b.1)
+
 module _ {Y : Type 0} (key : Y → ℕ) where
   -- what stands behind a key is above it
   pub above : (i : ℕ) (ss : List Y) → ((j : ℕ) → IsSome (item_of key ss j) → i < j) → EachItem (λ s. i < key s) ss
   above i [] h = tt
   above i (s ∷ ss) h = (h (key s) (own key s ss), above i ss (λ j g. h j (cond_is_some (key s == j) s (item_of key ss j) g)))
-
-  both : (P Q : Y → Type 0) (ss : List Y) → EachItem P ss → EachItem Q ss → EachItem (λ s. P s × Q s) ss
-  both P Q [] a b = tt
-  both P Q (s ∷ ss) a b = ((a.0, b.0), both P Q ss a.1 b.1)
 
   of_by : (t : Bool) (R : Y → Y → Type 0) (P : Y → Type 0) (i : ℕ) (f : Y → Y) (s : Y) (ss : List Y) → (key s == i) ≡ t → Increasing key (s ∷ ss) → EachItem P (s ∷ ss) → ((x : Y) → P x → item_of key (s ∷ ss) i ≡ Some x → R x (f x)) → ((x : Y) → P x → (key x ≡ i → ⊥) → R x x) → ((key s == i) ≡ false → EachOf R ss (edited key i f ss)) → EachOf R (s ∷ ss) (cond t (f s ∷ ss) (s ∷ edited key i f ss))
   of_by true R P i f s ss own rise all hit other later =

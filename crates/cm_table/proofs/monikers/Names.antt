@@ -1,5 +1,5 @@
 -- The names down to rows, in two trees in which rows stand alike.
-use Rattle.std.proofs.Common.{◌≡◌, ℕ, zero, suc, ◌<◌, List, ◌++◌, length, Option, Some, None, option_to_list, refl, sym, ◌∙◌, ap, arith, inl, inr, ◌⊎◌}
+use Rattle.std.proofs.Common.{◌≡◌, ℕ, zero, suc, ◌<◌, List, ◌++◌, length, Option, Some, None, option_to_list, refl, sym, ◌∙◌, ap, arith}
 use Rattle.cm_names.specs.declared.child.ChildName.{ChildName}
 use Rattle.cm_names.specs.declared.moniker.Moniker.{Moniker}
 use Rattle.cm_facts.proofs.Numbers.{lt_of_lt_suc}
@@ -10,7 +10,7 @@ use Rattle.cm_world.specs.RowsInside.{child_behind}
 use Rattle.cm_world.specs.Sound.{IsOrderly, IsParent}
 use Rattle.cm_world.proofs.trees.Climbing.{names_to-step, names_root}
 use Rattle.cm_table.proofs.tree.Leaves.{without, was_there, orderly_without}
-use Rattle.cm_table.proofs.tree.Orderly.{IsKeeping}
+use Rattle.cm_table.proofs.tree.Orderly.{IsKeeping, kept_name, kept_parent}
 use Rattle.cm_table.proofs.tree.Rows.{lives_left, Becomes, becomes_after}
 
 -- the row of an incarnation in another tree, which has the same parent and the same name
@@ -41,20 +41,12 @@ module _ (a b : List Row) (na nb : ℕ) (oa : IsOrderly a na) (ob : IsOrderly b 
   pub moniker_same : (i : ℕ) (r : Row) → row_of a i ≡ Some r → moniker_of b i ≡ moniker_of a i
   moniker_same i r here = ap moniker_with (names_below (suc i) i r (omega arith) here)
 
-parent_kept : (f : Row → Row) (s r : Row) → IsKeeping f → (s ≡ r) ⊎ (s ≡ f r) → s.parent ≡ r.parent
-parent_kept f s r k (inl e) = ap (λ z. z.parent) e
-parent_kept f s r k (inr e) = ap (λ z. z.parent) e ∙ k.parent r
-
-name_kept : (f : Row → Row) (s r : Row) → IsKeeping f → (s ≡ r) ⊎ (s ≡ f r) → s.name ≡ r.name
-name_kept f s r k (inl e) = ap (λ z. z.name) e
-name_kept f s r k (inr e) = ap (λ z. z.name) e ∙ k.name r
-
 -- one row is changed, but for its place
 pub moniker_changed : (f : Row → Row) (rows : List Row) (next x i : ℕ) (r : Row) → IsKeeping f → IsOrderly rows next → IsOrderly (changed x f rows) next → row_of rows i ≡ Some r → moniker_of (changed x f rows) i ≡ moniker_of rows i
 moniker_changed f rows next x i r k o on here =
     moniker_same rows (changed x f rows) next next o on
     (λ j s lives. let b : Becomes f (row_of (changed x f rows) j) s = becomes_after x f k.inc rows j s lives in
-    record { row = b.row; lives = b.lives; parent = parent_kept f b.row s k b.is; name = name_kept f b.row s k b.is }) i r here
+    record { row = b.row; lives = b.lives; parent = kept_parent f k b.row s b.is; name = kept_name f k b.row s b.is }) i r here
 
 -- a row without children is taken away
 pub moniker_left : (rows : List Row) (next leaf i : ℕ) (r : Row) → IsOrderly rows next → child_behind rows leaf None ≡ None → row_of (without leaf rows) i ≡ Some r → moniker_of rows i ≡ moniker_of (without leaf rows) i

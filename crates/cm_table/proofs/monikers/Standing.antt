@@ -174,7 +174,7 @@ module _ (ss news : List Slot) (next more p : ℕ) (q : Row) (o : IsOrderly (row
   pub standing_grown : StandWhereKept (ss ++ news)
   standing_grown i m h = grown_by i m (slot_of ss i) refl h
 
-parents_by : (P : Row → Type 0) (ss : List Slot) → EachItem P (rows_in ss) → EachItem (λ s. P s.row) ss
+pub parents_by : (P : Row → Type 0) (ss : List Slot) → EachItem P (rows_in ss) → EachItem (λ s. P s.row) ss
 parents_by P [] all = tt
 parents_by P (s ∷ ss) all = (all.0, parents_by P ss all.1)
 

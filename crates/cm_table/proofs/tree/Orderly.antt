@@ -21,7 +21,7 @@ pub kept_parent : (f : Row → Row) → IsKeeping f → (s r : Row) → (s ≡ r
 kept_parent f k s r (inl e) = ap (λ z. z.parent) e
 kept_parent f k s r (inr e) = ap (λ z. z.parent) e ∙ k.parent r
 
-kept_name : (f : Row → Row) → IsKeeping f → (s r : Row) → (s ≡ r) ⊎ (s ≡ f r) → s.name ≡ r.name
+pub kept_name : (f : Row → Row) → IsKeeping f → (s r : Row) → (s ≡ r) ⊎ (s ≡ f r) → s.name ≡ r.name
 kept_name f k s r (inl e) = ap (λ z. z.name) e
 kept_name f k s r (inr e) = ap (λ z. z.name) e ∙ k.name r
 

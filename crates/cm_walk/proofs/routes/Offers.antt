@@ -35,12 +35,13 @@ none_at p xs is = none_by p xs (nat_lt (position_or_len p xs) (length xs)) refl 
 
 -- ---- told indexes
 
-below : (k index : ℕ) → told_index k ≡ index → index < 2 ^ 32 - 1 → k ≡ index
-below k index told less = omega arith
+-- a number that is told and isn't the highest one is exact
+pub told_exact : (k index : ℕ) → told_index k ≡ index → index < 2 ^ 32 - 1 → k ≡ index
+told_exact k index told less = omega arith
 
 pub told_exactly : (o : Option ℕ) (index : ℕ) → option_map told_index o ≡ Some index → index < 2 ^ 32 - 1 → o ≡ Some index
 told_exactly None index told less = absurd (none_some index told)
-told_exactly (Some k) index told less = ap Some (below k index (some_same (told_index k) index told) less)
+told_exactly (Some k) index told less = ap Some (told_exact k index (some_same (told_index k) index told) less)
 
 pub told_none : (o : Option ℕ) → option_map told_index o ≡ None → o ≡ None
 told_none None told = refl

@@ -1,12 +1,12 @@
 use Rattle.std.proofs.Common.{◌-◌, ◌≤◌, ◌==◌, ◌∙◌, ap, sym, arith, add-sub_of_le}
 use Rattle.cm_world.specs.Edits.{drop_first}
 use Rattle.cm_table.specs.Slots.{kids_of}
-use Rattle.cm_table.proofs.indexes.Naming.{kept_low, remove_kids}
+use Rattle.cm_table.proofs.indexes.Naming.{remove_kids, drop_low}
 use Rattle.cm_table.proofs.links.remove_child.Goals as goal
 
 pub returns-then-inc-own-clause-kids : goal.returns-then-inc-own-clause-kids
 returns-then-inc-own-clause-kids c =
-    kept_low c.in-Some.own.base c.args.inc c.in-Some.own.kids.items c.if-inc-own.true
+    sym (drop_low c.in-Some.own.base c.args.inc c.in-Some.own.kids.items c.if-inc-own.true)
     ∙ ap (λ x. drop_first (λ k. k == c.args.inc) (kids_of x)) (sym c.in-Some.is)
 
 pub returns-clause-kids : goal.returns-clause-kids
