@@ -1,5 +1,5 @@
 -- What lanes answer is made of replies.
-use Rattle.std.proofs.Common.{◌≡◌, ℕ, ◌<◌, List, [], ◌∷◌, ◌++◌, Bool, true, false, cond, ◌==◌, Option, Some, None, Result, Ok, Err, All, IsTrue, refl, sym, ap, subst, arith, eq-eqb}
+use Rattle.std.proofs.Common.{◌≡◌, ℕ, ◌<◌, List, [], ◌∷◌, ◌++◌, Bool, true, false, ◌==◌, Option, Some, None, Result, Ok, Err, All, IsTrue, refl, sym, subst, arith}
 use Rattle.std.specs.Prelude.{IfSome}
 use Rattle.std.proofs.lemmas.List.Elements.{All-cons, All-append, All-nil, All-head, All-tail}
 use Rattle.cm_names.specs.Path.{is_path}
@@ -44,8 +44,7 @@ use Rattle.cm_manager.proofs.shutdowns.ShuttingDown.{shuts_close, destroys_close
 use Rattle.cm_legible.specs.Tellable.{IsNamedReply}
 use Rattle.cm_legible.proofs.Replies.{legible_reply}
 use Rattle.cm_journal.proofs.Streamed.{stream_is}
-use Rattle.cm_turn.proofs.Histories.{starts-refl, starts-trans}
-use Rattle.cm_lanes.proofs.lines.Parting.{Growing, Following, tries_grow, behind_grows, tried_grows, created_grows, left_grows, then_grows, tried_then_grows, acted_grows, each_grows, row_grows, doctors_grow, streams_grow, calls_grow}
+use Rattle.cm_lanes.proofs.lines.Parting.{Growing, Following, tries_grow, behind_grows, tried_grows, created_grows, left_grows, then_grows, tried_then_grows, acted_grows, each_grows, row_grows, doctors_grow, streams_grow, answers_own, answers_behind, phases_grow, follows_grows}
 
 abbrev OfReply : Entry → Type 0
 OfReply e = IsNamedReply e.reply
@@ -424,34 +423,20 @@ module _ (f : Frame) (c : ℕ) where
   abbrev OfAnswer : AnsweredLine → Type 0
   OfAnswer a = IsLegibleResult a.result
 
-  follows_grow : {xs : List AnsweredLine} {a b : List Entry} → PerformsLines f c xs a b → StartsWith b a
-  follows_grow (rests l) = l.grows
-  follows_grow (performs {a = x} call rest) = starts-trans _ _ _ (follows_grow rest) (calls_grow f c x.line.command _ _ _ call)
-
   follows : {xs : List AnsweredLine} {a b : List Entry} → PerformsLines f c xs a b → OfReplies b → All OfAnswer xs
   follows (rests l) h = All-nil OfAnswer
   follows (performs {a = x} {others = xs} {h₁ = m} {h₂ = b} call rest) h =
-      All-cons OfAnswer x xs (calls x.line.command _ m x.result call (within m b (follows_grow rest) h)) (follows rest h)
+      All-cons OfAnswer x xs (calls x.line.command _ m x.result call (within m b (follows_grows f c _ _ _ rest) h)) (follows rest h)
 
 -- ---- all lanes
 
 module _ (P : AnsweredLine → Type 0) where
-  kept_of : (a : AnsweredLine) (xs : List AnsweredLine) → answers_of a.line.lane (a ∷ xs) ≡ a ∷ answers_of a.line.lane xs
-  kept_of a xs = ap (λ (b : Bool). cond b (a ∷ answers_of a.line.lane xs) (answers_of a.line.lane xs)) (eq-eqb a.line.lane a.line.lane refl)
-
-  other_of : (b : Bool) (c : ℕ) (a : AnsweredLine) (xs : List AnsweredLine) → (a.line.lane == c) ≡ b → All P (answers_of c (a ∷ xs)) → All P (answers_of c xs)
-  other_of true c a xs is h = All-tail P a (answers_of c xs) (subst (All P) (ap (λ (b : Bool). cond b (a ∷ answers_of c xs) (answers_of c xs)) is) h)
-  other_of false c a xs is h = subst (All P) (ap (λ (b : Bool). cond b (a ∷ answers_of c xs) (answers_of c xs)) is) h
 
   by_lanes : (xs : List AnsweredLine) → All (λ (a : AnsweredLine). a.line.lane < 16) xs → ((c : ℕ) → c < 16 → All P (answers_of c xs)) → All P xs
   by_lanes [] few each = All-nil P
   by_lanes (a ∷ xs) few each =
-      All-cons P a xs (All-head P a (answers_of a.line.lane xs) (subst (All P) (kept_of a xs) (each a.line.lane (All-head (λ (a : AnsweredLine). a.line.lane < 16) a xs few))))
-      (by_lanes xs (All-tail (λ (a : AnsweredLine). a.line.lane < 16) a xs few) (λ c lt. other_of (a.line.lane == c) c a xs refl (each c lt)))
-
-phases_grow : (f : Frame) {answered : List (List AnsweredLine)} {a b : List Entry} → ArePhases (λ c. f) answered a b → StartsWith b a
-phases_grow f none_left = starts-refl _
-phases_grow f (one_first phase rest) = starts-trans _ _ _ (phases_grow f rest) phase.grows
+      All-cons P a xs (All-head P a (answers_of a.line.lane xs) (subst (All P) (answers_own a xs) (each a.line.lane (All-head (λ (a : AnsweredLine). a.line.lane < 16) a xs few))))
+      (by_lanes xs (All-tail (λ (a : AnsweredLine). a.line.lane < 16) a xs few) (λ c lt. answers_behind P (a.line.lane == c) c a xs refl (each c lt)))
 
 abbrev AllOf : List AnsweredLine → Type 0
 AllOf xs = All (λ (a : AnsweredLine). IsLegibleResult a.result) xs

@@ -5,3 +5,4 @@ pub mod Followings
 pub mod Helping
 pub mod Joining
 pub mod Keeping
+pub mod Sixteen

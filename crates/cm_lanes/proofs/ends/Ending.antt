@@ -27,6 +27,7 @@ use Rattle.cm_lanes.specs.Lanes.{RanLanes, RanOrNot}
 use Rattle.cm_lanes.specs.Phases.{told_to, AreLanes, lane_frames, frame_in_lane, LanesRan}
 use Rattle.cm_lanes.specs.LaneParts.{AreLaneParts, HasPassIn, IsFreshLane}
 use Rattle.cm_lanes.specs.Merge.{Queue}
+use Rattle.cm_manager.proofs.calling.Sixteen.{sixteen_long}
 
 -- phases over other frames
 phase_same : (f g : ℕ → Frame) (a : List AnsweredLine) (h₀ h₁ : List Entry) → ((c : ℕ) → c < 16 → f c ≡ g c) → IsPhase f a h₀ h₁ → IsPhase g a h₀ h₁
@@ -188,9 +189,6 @@ module _ {G : Type 0} (log_of : G → Option (List GateCall)) (faults_of : G →
   ended_after is many ends k d lt =
       let kept = kept_pair is many k d (omega (arith, is.passes, lt)) in
       grown_has_ends (get_or old k d).mine kept.keeps.part (get_or new k d).mine (ends k d (omega (arith, is.passes, lt))) kept.keeps.closed kept.keeps.mine
-
-pub sixteen_long : (turn : LockView) (passes : List RealmPass) → AreSixteen turn passes → length passes ≡ 16
-sixteen_long turn passes are = sym (length-map passes (λ (p : RealmPass). p.caller)) ∙ ap (λ (l : List ℕ). length l) are.callers ∙ length-range_with_len 0 16
 
 -- what holds of the passes whether lines were performed or not
 pub back_sixteen : {G : Type 0} (log_of : G → Option (List GateCall)) (faults_of : G → ℕ) (manifests : Manifests) (phases : List (List Line)) (turn : LockView) (passes : List RealmPass) (gates : List G) (back : Lanes G) → length gates ≡ 16 → AreSixteen turn passes → RanOrNot log_of faults_of manifests phases passes gates back → AreSixteen turn back.passes

@@ -1,6 +1,6 @@
 -- The parts of a caller's lines, and lines that are lost.
-use Rattle.std.proofs.Common.{◌≡◌, ℕ, ◌==◌, List, [], ◌∷◌, ◌++◌, All, map, flat_map, cond, Bool, true, false, Option, Some, None, Result, Ok, Err, IsTrue, refl, sym, ap, ◌∙◌, subst, append-nil, append_assoc, suc, arith}
-use Rattle.std.proofs.lemmas.List.Elements.{filter-append}
+use Rattle.std.proofs.Common.{◌≡◌, ℕ, ◌==◌, List, [], ◌∷◌, ◌++◌, All, map, flat_map, cond, Bool, true, false, Option, Some, None, Result, Ok, Err, IsTrue, refl, sym, ap, ◌∙◌, subst, append-nil, append_assoc, suc, arith, eq-eqb}
+use Rattle.std.proofs.lemmas.List.Elements.{filter-append, All-tail}
 use Rattle.cm_turn.specs.History.{StartsWith}
 use Rattle.cm_world.specs.declared.action.ActKind.{ActKind}
 use Rattle.cm_world.specs.declared.answer.Answer.{Answer}
@@ -32,7 +32,7 @@ use Rattle.cm_manager.specs.Streams.{Streams}
 use Rattle.cm_manager.specs.Doctor.{Checks, GathersEach, OfPath, OfRow, Doctors}
 use Rattle.cm_manager.proofs.left.Closing.{makes-own, cut-later, acts-close, sweeps_close, later-self}
 use Rattle.cm_manager.proofs.shutdowns.ShuttingDown.{shuts_close, destroys_close}
-use Rattle.cm_lanes.specs.Script.{AnsweredLine, answers_of, PerformsLines, rests, performs, IsPhase, ArePhases}
+use Rattle.cm_lanes.specs.Script.{AnsweredLine, answers_of, PerformsLines, rests, performs, IsPhase, ArePhases, none_left, one_first}
 use Rattle.cm_lanes.specs.Laws.{FallsIntoRuns, no_answer}
 use Rattle.cm_turn.proofs.Histories.{starts-refl, starts-trans}
 
@@ -126,9 +126,23 @@ calls_grow f c (command.Survey t) a b r is = on_row_grows f c t _ a b r (tried_g
 calls_grow f c (command.Exited t) a b r is = on_row_grows f c t _ a b r (tried_then_grows f c _ _ (left_grows f c)) is
 calls_grow f c (command.Events t from) a b r is = on_row_grows f c t _ a b r (streams_grow f c from) is
 
-follows_grows : (f : Frame) (c : ℕ) (xs : List AnsweredLine) (a b : List Entry) → PerformsLines f c xs a b → StartsWith b a
+pub follows_grows : (f : Frame) (c : ℕ) (xs : List AnsweredLine) (a b : List Entry) → PerformsLines f c xs a b → StartsWith b a
 follows_grows f c xs a b (rests later) = later.grows
 follows_grows f c xs a b (performs {a = x} {h₁ = h} calls rest) = starts-trans b h a (follows_grows f c _ h b rest) (calls_grow f c x.line.command a h x.result calls)
+
+-- of the answers of a line's own lane its answer is the first
+pub answers_own : (a : AnsweredLine) (xs : List AnsweredLine) → answers_of a.line.lane (a ∷ xs) ≡ a ∷ answers_of a.line.lane xs
+answers_own a xs = ap (λ (b : Bool). cond b (a ∷ answers_of a.line.lane xs) (answers_of a.line.lane xs)) (eq-eqb a.line.lane a.line.lane refl)
+
+-- what holds of all answers of a lane holds of those behind the first line, whosever that is
+pub answers_behind : (P : AnsweredLine → Type 0) (b : Bool) (c : ℕ) (a : AnsweredLine) (xs : List AnsweredLine) → (a.line.lane == c) ≡ b → All P (answers_of c (a ∷ xs)) → All P (answers_of c xs)
+answers_behind P true c a xs is h = All-tail P a (answers_of c xs) (subst (All P) (ap (λ (b : Bool). cond b (a ∷ answers_of c xs) (answers_of c xs)) is) h)
+answers_behind P false c a xs is h = subst (All P) (ap (λ (b : Bool). cond b (a ∷ answers_of c xs) (answers_of c xs)) is) h
+
+-- phases go on too
+pub phases_grow : (f : Frame) {answered : List (List AnsweredLine)} {a b : List Entry} → ArePhases (λ c. f) answered a b → StartsWith b a
+phases_grow f none_left = starts-refl _
+phases_grow f (one_first phase rest) = starts-trans _ _ _ (phases_grow f rest) phase.grows
 
 -- ---- its parts
 

@@ -1,6 +1,6 @@
 -- What was destroyed stays gone: in every later tree it is gone, who asks it for something is told so, and no other reply
 -- names it.
-use Rattle.std.proofs.Common.{◌≡◌, ℕ, ◌<◌, ◌≤◌, List, [], ◌∷◌, ◌++◌, map, Bool, true, false, cond, not, ◌||◌, ◌==◌, true≢false, Option, Some, None, is_some, IsTrue, refl, sym, ◌∙◌, ap, subst, arith, inl, inr, ◌⊎◌, ⊎_elim, append_assoc}
+use Rattle.std.proofs.Common.{◌≡◌, ℕ, ◌<◌, ◌≤◌, List, [], ◌∷◌, ◌++◌, map, Bool, true, false, cond, not, ◌||◌, true≢false, Option, Some, None, is_some, IsTrue, refl, sym, ◌∙◌, ap, subst, arith, inl, inr, ◌⊎◌, ⊎_elim, append_assoc}
 use Rattle.std.specs.Prelude.{Contains}
 use Rattle.std.specs.List.{list_all}
 use Rattle.std.specs.Option.{IfSome}
@@ -314,14 +314,9 @@ dead_exits w e i dead step exits =
 
 -- ---- what names a row that is gone
 
-only : (i j : ℕ) → Contains (j ∷ []) i → j ≡ i
-only i j there = (unsigned_Decides j i).0 (passes_in (λ k. j == k) (j ∷ []) i (both ((unsigned_Decides j j).1 refl)) there) where
-  both : IsTrue (j == j) → IsTrue (list_all (λ k. j == k) (j ∷ []))
-  both same = rw same refl
-
 -- it is named as gone, or while it goes
 gone_named : (rows : List Row) (next i : ℕ) (r : Reply) → i < next → IsTrue (is_gone rows i) → Contains (named_in r) i → IsTrue (fits rows next r i) → (r ≡ reply.Gone i) ⊎ IsTrue (is_removing r)
-gone_named rows next i (reply.Gone j) low gone there fit = inl (ap reply.Gone (only i j there))
+gone_named rows next i (reply.Gone j) low gone there fit = inl (ap reply.Gone (Contains_one j i there))
 gone_named rows next i (reply.Created j) low gone there fit =
     let same : i ≡ next = (unsigned_Decides i next).0 fit in absurd (omega arith)
 gone_named rows next i (reply.Stopping work) low gone there fit = inr refl

@@ -1,9 +1,9 @@
 -- The passes of sixteen callers, and what entries of theirs are.
 use Rattle.std.proofs.Common.{◌≡◌, ℕ, zero, suc, ◌+◌, ◌<◌, ◌==◌, List, [], ◌∷◌, ◌++◌, All, map, filter, length, get_or, Bool, true, Some, None, refl, sym, ap, subst, ◌∙◌, arith}
 use Rattle.std.specs.List.{slice_get}
-use Rattle.std.proofs.lemmas.List.{length-map, get_or-map}
+use Rattle.std.proofs.lemmas.List.{get_or-map}
 use Rattle.std.proofs.lemmas.List.Elements.{All-nil, All-cons, All-append, All-head, All-tail}
-use Rattle.std.proofs.lemmas.List.FromFn.{length-range_with_len, get_or-range_with_len}
+use Rattle.std.proofs.lemmas.List.FromFn.{get_or-range_with_len}
 use Rattle.std.proofs.lemmas.Option.{slice_get_within, slice_get-get_or, get_or_from_slice_get}
 use Rattle.cm_facts.proofs.Numbers.{eq_self}
 use Rattle.cm_turn.specs.Passes.{LockView, AreAll, HasCaller, new_pass, new_passes}
@@ -13,6 +13,7 @@ use Rattle.cm_world.specs.declared.reply.Entry.{Entry}
 use Rattle.cm_manager.specs.Turns.{own_entries}
 use Rattle.cm_manager.specs.Contract.{RealmPass}
 use Rattle.cm_manager.specs.Kept.{AreSixteen}
+use Rattle.cm_manager.proofs.calling.Sixteen.{sixteen_long}
 
 module _ {X : Type 0} where
 
@@ -41,9 +42,6 @@ no_entries n (e ∷ es) low none =
 
 abbrev blank : LockView → RealmPass
 blank turn = record { lock = turn.lock; frame = None; caller = 0; seen = []; mine = [] }
-
-pub sixteen_long : (turn : LockView) (passes : List RealmPass) → AreSixteen turn passes → length passes ≡ 16
-sixteen_long turn passes are = sym (length-map passes (λ (p : RealmPass). p.caller)) ∙ ap (λ (l : List ℕ). length l) are.callers ∙ length-range_with_len 0 16
 
 caller_at : (turn : LockView) (passes : List RealmPass) (k : ℕ) (p : RealmPass) → AreSixteen turn passes → slice_get passes k ≡ Some p → p.caller ≡ k
 caller_at turn passes k p are at =

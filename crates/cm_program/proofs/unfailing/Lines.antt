@@ -1,5 +1,5 @@
 -- What a script's lines, and the commands of links, are answered where no outcome that was told had failed.
-use Rattle.std.proofs.Common.{◌≡◌, inl, inr, ℕ, ◌<◌, List, [], ◌∷◌, Bool, true, false, cond, nat_eq, ◌==◌, Result, All, map, refl, sym, ap, subst, arith, eq-eqb}
+use Rattle.std.proofs.Common.{inl, inr, ℕ, ◌<◌, List, [], ◌∷◌, Bool, true, false, cond, nat_eq, ◌==◌, Result, All, map, refl, sym, subst, arith}
 use Rattle.std.specs.List.{AllZip}
 use Rattle.std.proofs.lemmas.List.Elements.{All-cons, All-nil, All-head, All-tail}
 use Rattle.cm_facts.proofs.Numbers.{eq_self}
@@ -22,8 +22,8 @@ use Rattle.cm_program.specs.Sessions.{FollowsEach, SessionRecord, sats_by}
 use Rattle.cm_program.specs.Unfailing.{IsUnfailing, AreUnfailing}
 use Rattle.cm_program.proofs.unfailing.Ends.{OfEnds}
 use Rattle.cm_program.proofs.unfailing.Results.{calls, within}
-use Rattle.cm_turn.proofs.Histories.{starts-refl, starts-trans}
-use Rattle.cm_lanes.proofs.lines.Parting.{calls_grow}
+use Rattle.cm_turn.proofs.Histories.{starts-trans}
+use Rattle.cm_lanes.proofs.lines.Parting.{calls_grow, answers_own, answers_behind, phases_grow, follows_grows}
 
 abbrev OfAnswer : AnsweredLine → Type 0
 OfAnswer a = IsUnfailing a.result
@@ -37,14 +37,10 @@ OfSat s = All OfDone (done_of s.told)
 module _ (f : Frame) (c : ℕ) where
   -- ---- one lane
 
-  follows_grow : {xs : List AnsweredLine} {a b : List Entry} → PerformsLines f c xs a b → StartsWith b a
-  follows_grow (rests l) = l.grows
-  follows_grow (performs {a = x} call rest) = starts-trans _ _ _ (follows_grow rest) (calls_grow f c x.line.command _ _ _ call)
-
   follows : {xs : List AnsweredLine} {a b : List Entry} → PerformsLines f c xs a b → All OfEnds b → All OfAnswer xs
   follows (rests l) h = All-nil OfAnswer
   follows (performs {a = x} {others = xs} {h₁ = m} {h₂ = b} call rest) h =
-      All-cons OfAnswer x xs (calls f c x.line.command _ m x.result call (within m b (follows_grow rest) h)) (follows rest h)
+      All-cons OfAnswer x xs (calls f c x.line.command _ m x.result call (within m b (follows_grows f c _ _ _ rest) h)) (follows rest h)
 
   -- ---- one worker
 
@@ -77,23 +73,13 @@ module _ (f : Frame) (c : ℕ) where
 -- ---- all lanes
 
 module _ (P : AnsweredLine → Type 0) where
-  kept_of : (a : AnsweredLine) (xs : List AnsweredLine) → answers_of a.line.lane (a ∷ xs) ≡ a ∷ answers_of a.line.lane xs
-  kept_of a xs = ap (λ (b : Bool). cond b (a ∷ answers_of a.line.lane xs) (answers_of a.line.lane xs)) (eq-eqb a.line.lane a.line.lane refl)
-
-  other_of : (b : Bool) (c : ℕ) (a : AnsweredLine) (xs : List AnsweredLine) → (a.line.lane == c) ≡ b → All P (answers_of c (a ∷ xs)) → All P (answers_of c xs)
-  other_of true c a xs is h = All-tail P a (answers_of c xs) (subst (All P) (ap (λ (b : Bool). cond b (a ∷ answers_of c xs) (answers_of c xs)) is) h)
-  other_of false c a xs is h = subst (All P) (ap (λ (b : Bool). cond b (a ∷ answers_of c xs) (answers_of c xs)) is) h
 
   by_lanes : (xs : List AnsweredLine) → All IsFit (answered_lines xs) → ((c : ℕ) → c < 16 → All P (answers_of c xs)) → All P xs
   by_lanes [] few each = All-nil P
   by_lanes (a ∷ xs) few each =
       let fit = All-head IsFit a.line (answered_lines xs) few in
-      All-cons P a xs (All-head P a (answers_of a.line.lane xs) (subst (All P) (kept_of a xs) (each a.line.lane fit.lane)))
-      (by_lanes xs (All-tail IsFit a.line (answered_lines xs) few) (λ c lt. other_of (a.line.lane == c) c a xs refl (each c lt)))
-
-phases_grow : (f : Frame) {answered : List (List AnsweredLine)} {a b : List Entry} → ArePhases (λ c. f) answered a b → StartsWith b a
-phases_grow f none_left = starts-refl _
-phases_grow f (one_first phase rest) = starts-trans _ _ _ (phases_grow f rest) phase.grows
+      All-cons P a xs (All-head P a (answers_of a.line.lane xs) (subst (All P) (answers_own a xs) (each a.line.lane fit.lane)))
+      (by_lanes xs (All-tail IsFit a.line (answered_lines xs) few) (λ c lt. answers_behind P (a.line.lane == c) c a xs refl (each c lt)))
 
 abbrev pub AreFit : List Line → Type 0
 AreFit lines = All IsFit lines

@@ -20,9 +20,10 @@ use Rattle.cm_session.specs.Doorway.{DoorPass}
 use Rattle.cm_session.specs.Links.{LinkView}
 use Rattle.cm_session.specs.PoolParts.{AreWorkerParts, Links}
 use Rattle.cm_session.specs.Serving.{IsUnserved, ServedOrNot}
-use Rattle.cm_session.proofs.ends.Ending.{places_of, sixteen_long, visited_of}
+use Rattle.cm_session.proofs.ends.Ending.{places_of, visited_of}
 use Rattle.cm_session.proofs.ends.Finishing.{all_at_door, counts_links, done_over, ends_back, fault_rose, few_links, gates_back, keeps_all, keeps_each, links_counted, place_kept, serves_all, sixteen_back, done_sound}
 use Rattle.cm_session.proofs.work.Making.{Made}
+use Rattle.cm_manager.proofs.calling.Sixteen.{sixteen_long}
 
 module _ {D L G : Type 0} (log_of : G → Option (List GateCall)) (faults_of : G → ℕ) (view : L → LinkView) (counts : D → DoorCounts) (place_of : D → DoorPlace) (manifests : Manifests) (realm : LockView) (sessions workers : ℕ) (passes : List RealmPass) (gates : List G) (door : D) where
   -- before the door is closed

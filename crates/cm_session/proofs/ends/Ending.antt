@@ -8,7 +8,6 @@ use Rattle.std.proofs.lemmas.Option.{slice_get-get_or, slice_get_within, get_or_
 use Rattle.std.proofs.Math.ListN.{get_or-append}
 use Rattle.std.proofs.Math.Seq.{get_or-append_seam}
 use Rattle.cm_gate.specs.declared.asked.GateCall.{GateCall}
-use Rattle.std.proofs.lemmas.List.FromFn.{length-range_with_len}
 use Rattle.cm_facts.proofs.Lists.{length_by_map, slice_get_some, take_over, All_slice_get}
 use Rattle.cm_manager.specs.Contract.{RealmPass}
 use Rattle.cm_manager.specs.Kept.{AreSixteen}
@@ -26,6 +25,7 @@ use Rattle.cm_session.specs.PoolParts.{AreWorkerParts, HasPasses, PoolPartsHaveR
 use Rattle.cm_session.specs.Serving.{AreWell, EndsLost, StopsAtLoss, ServedLink}
 use Rattle.cm_session.proofs.work.Making.{Made}
 use Rattle.cm_session.proofs.work.Places.{all_places, any_place, at_map, field_at, item_at}
+use Rattle.cm_manager.proofs.calling.Sixteen.{sixteen_long}
 
 -- ---- the passes of a new door
 
@@ -161,9 +161,6 @@ module _ {G L : Type 0} (log_of : G → Option (List GateCall)) (faults_of : G �
         any_place EndsLost visits any.0 v.0 v.1 ((visited.each any.0 x.0 any.1 v.0 x.1 y_is v.1).lost any.4)
 
 -- ---- before the work
-
-pub sixteen_long : (turn : LockView) (passes : List RealmPass) → AreSixteen turn passes → length passes ≡ 16
-sixteen_long turn passes are = sym (length-map passes (λ (p : RealmPass). p.caller)) ∙ ap (λ (l : List ℕ). length l) are.callers ∙ length-range_with_len 0 16
 
 module _ {G L : Type 0} where
   -- the workers that are made of sixteen passes, and of those of a new door, are ready
