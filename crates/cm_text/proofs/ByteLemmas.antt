@@ -37,5 +37,3 @@ word_class b h = rw (word_no_mark b h) (rw (word_no_space b h) (rw (word_no_quot
 
 pub slash_no_quote : (q : ℕ) → is_quote q ≡ true → (92 == q) ≡ false
 slash_no_quote q h = grind (arith, rules)
-
--- ---- bools

@@ -10,8 +10,6 @@ use Rattle.cm_decl.specs.Clashes.{or_else}
 use Rattle.cm_world.specs.Edits.{edit_first}
 use Rattle.cm_cache.specs.Places.{place_at, placed, place_of}
 
--- ---- options
-
 -- ---- the place of an item
 
 module _ {A : Type 0} (p : A → Bool) where

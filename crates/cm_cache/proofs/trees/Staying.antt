@@ -28,8 +28,6 @@ use Rattle.cm_cache.specs.Right.{bare}
 use Rattle.cm_cache.specs.Laws.{BareRowsStay, WalksStay}
 use Rattle.cm_cache.proofs.trees.Reading.{walks_read_bare_rows}
 
--- ---- tests
-
 -- ---- a change of one row
 
 module _ (f : Row → Row) (bares : (r : Row) → bare (f r) ≡ bare r) where

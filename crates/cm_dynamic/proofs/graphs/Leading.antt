@@ -38,7 +38,6 @@ use Rattle.cm_world.proofs.examples.Declarations.{edge_source}
 
 -- ---- one child more
 
-
 -- an edge between others was there before
 edge_before : (d : Decl) (old : List DynChild) (k : DynChild) (x y : Node) → (x ≡ Child k.name → ⊥) → (y ≡ Child k.name → ⊥) → StrongOn d (old ++ k ∷ []) x y → StrongOn d old x y
 edge_before d old k x y first second edge =

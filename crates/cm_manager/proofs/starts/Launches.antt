@@ -79,5 +79,3 @@ children_row f c e n eager es a b d end starts all =
 -- memory is wanting for them
 pub wanting_row : (f : Frame) (c e n : ℕ) (eager es : List ℕ) (a b : List Entry) → eager ≢ [] → StartsBy f c e (launch.Children n eager) a b → StartsEager f c (e ∷ es) a b (Some refusal.Memory)
 wanting_row f c e n eager es a b some starts = StartsEager.cut_at (wanting_start f c e n eager a b some starts) refl
-
--- ---- failures

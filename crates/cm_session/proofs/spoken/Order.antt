@@ -14,8 +14,6 @@ use Rattle.cm_session.specs.declared.ended.Ended.TheVariants as ended
 use Rattle.cm_session.specs.Steps.{RepliesInOrder}
 use Rattle.cm_io.proofs.InStep.{ends-append, unbroken-ends, given-append, written-append, given-gave, given-wrote, written-gave, written-wrote, reads-in_step, writes-in_step}
 
--- ---- how many lines end
-
 -- ---- moves one behind another
 
 -- the bytes that moves gave, behind reads and behind writes
@@ -30,8 +28,6 @@ written-reads moves pieces = written-append moves (map gave pieces) ∙ ap (λ (
 
 written-writes : (moves : List Move) (pieces : List TextBytes) → written_in (moves ++ map wrote pieces) ≡ written_in moves ++ joined pieces
 written-writes moves pieces = written-append moves (map wrote pieces) ∙ ap (λ (l : TextBytes). written_in moves ++ l) (written-wrote pieces)
-
--- ---- in step
 
 -- ---- what a session has in hand between two lines
 

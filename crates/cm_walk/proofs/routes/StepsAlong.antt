@@ -128,5 +128,3 @@ pub ends_way : (rows : List Row) (builtins : List Builtin) (first : world.Statio
 ends_way rows builtins first t u here v step way is made =
     let done : StepsAlong rows builtins way.prefix (as_station here) u (Done v) = subst (λ z. StepsAlong rows builtins way.prefix (as_station here) u z) is (made way.prefix way.behind) in
     way.whole v (record { rest = []; chain = tt; decided = done })
-
--- ---- answers that may be out of memory
