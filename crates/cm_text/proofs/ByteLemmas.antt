@@ -1,4 +1,4 @@
--- The classes of bytes, of which each byte has one, and tests that hold together.
+-- The classes of bytes, of which each byte has one.
 use Rattle.std.proofs.Common.{◌≡◌, ℕ, true, false, ◌==◌, refl, arith, rules}
 use Rattle.cm_text.specs.Bytes.{is_mark, is_space, is_quote, is_word_byte}
 use Rattle.cm_text.specs.Pieces.{mark_byte, space_byte, quote_byte, word_byte, class}
