@@ -5,8 +5,9 @@
 
 Of each `use Rattle.CRATE...` of a crate of this repository the module has to be a file, a type or a function,
 and each name that it takes a definition, a constructor, a field, a variant or a constant there. A name behind
-a module's alias has to stand in that module. It proves nothing, and takes seconds, so it tells what a
-renaming or a moved definition forgot before a proof begins. What leads nowhere is printed, with status 1.
+a module's alias has to stand in that module. A file of lemmas that another crate takes from has to be `pub
+mod` there, in each folder. It proves nothing, and takes seconds, so it tells what a renaming or a moved
+definition forgot before a proof begins. What leads nowhere is printed, with status 1.
 """
 
 import pathlib
@@ -66,6 +67,18 @@ class Places:
         have = self.modules[crate, ".".join(parts[2:end])]
         return [it for it in [*parts[end:], *names] if it not in have]
 
+    def kept_inside(self, crate, parts):
+        """The part of a path into another crate's lemmas that isn't public there."""
+        if parts[1] == crate or parts[2] != "proofs" or (parts[1], ".".join(parts[2:])) not in self.modules:
+            return []
+        folder = TOP / "crates" / parts[1] / "proofs"
+        node = folder / "Lib.antt"
+        for part in parts[3:]:
+            if f"pub mod {part}" not in node.read_text(encoding="utf-8").split("\n"):
+                return [part]
+            node, folder = folder / f"{part}.antt", folder / part
+        return []
+
     def lost_by_alias(self, text, parts, alias):
         """The names behind a module's alias that don't stand in the module."""
         there = self.texts.get((parts[1], ".".join(parts[2:])))
@@ -86,7 +99,7 @@ def words_of(folder):
 
 def main():
     places = Places()
-    lost, looked = [], 0
+    lost, inside, looked = [], [], 0
     for path in sorted((TOP / "crates").rglob("*")):
         if path.suffix not in (".rt", ".antt") or "out" in path.relative_to(TOP).parts:
             continue
@@ -98,13 +111,15 @@ def main():
                 continue
             looked += 1
             missing = places.lost(parts, list(names.values()))
+            inside += [f"{path.relative_to(TOP)}: {there}: {it} isn't public"
+                       for it in places.kept_inside(path.relative_to(TOP).parts[1], parts)]
             if not names:
                 missing += places.lost_by_alias(bare, parts, alias or parts[-1])
             lost += [f"{path.relative_to(TOP)}: {there}: nothing is called {it}" for it in missing]
-    for it in lost:
+    for it in lost + inside:
         print(f"resolves: {it}")
-    print(f"resolves: {looked} imports, {len(lost)} names that lead nowhere")
-    sys.exit(1 if lost else 0)
+    print(f"resolves: {looked} imports, {len(lost) + len(inside)} names that lead nowhere")
+    sys.exit(1 if lost or inside else 0)
 
 
 if __name__ == "__main__":
