@@ -2,19 +2,29 @@
 -- What one lane, a thread that performs one caller's lines of a script, has in hand from step to step.
 use Rattle.std.specs.Prelude.{◌≡◌, ◌⊎◌, ℕ, ◌<◌, List, [], ◌∷◌, ◌++◌, map, Bool, false, Option, Some, length}
 use Rattle.std.specs.Prelude.{slice_index_or, Any}
+use Rattle.std.specs.declared.alloc.Global.{Global}
+use Rattle.std.specs.declared.collections.VecDeque.{VecDeque}
 use Rattle.cm_turn.specs.History.{StartsWith}
 use Rattle.cm_turn.specs.Passes.{LockView, seen_up_to}
 use Rattle.cm_world.specs.declared.reply.Entry.{Entry}
 use Rattle.cm_command.specs.declared.script.Line.{Line}
 use Rattle.cm_gate.specs.declared.asked.GateCall.{GateCall}
 use Rattle.cm_manager.specs.Asking.{frame_of}
+use Rattle.cm_manager.specs.declared.desks.Desk.{Desk}
 use Rattle.cm_manager.specs.Work.{Manifests}
 use Rattle.cm_manager.specs.Contract.{RealmPass, GatesView}
 use Rattle.cm_lanes.specs.declared.said.Said.{Said}
-use Rattle.cm_lanes.specs.declared.lane.Lane.{Lane}
 use Rattle.cm_lanes.specs.Script.{AnsweredLine, answered_lines, PerformsLines}
 use Rattle.cm_lanes.specs.ScriptInside.{said_of, lines_of}
 use Rattle.cm_manager.specs.Kept.{IsOwnPass, KeepsPass, gates_view}
+
+-- the answers of one lane, in its order
+abbrev pub Queue : Type 0
+Queue = VecDeque Said Global
+
+-- what one lane with gates of this type has in hand
+abbrev pub Lane : Type 0 → Type 0
+Lane G = Desk G Queue
 
 -- the list of answers grew by these, unless the lane has lost some for lack of memory
 abbrev pub GrewUnless : Bool → List Said → List Said → List Said → Type 0
@@ -57,7 +67,7 @@ module _ {G : Type 0} where
     pub grows : StartsWith seen pass.seen
     pub own : IsOwnPass (seen_up_to seen pass)
     pub gates : new.gates ≡ old.gates
-    pub said : new.said ≡ old.said
+    pub said : new.work ≡ old.work
     pub lost : new.lost ≡ old.lost
 
   -- two lanes have met: each has now seen what the one that had seen more had
@@ -89,5 +99,5 @@ module _ {G : Type 0} (log_of : G → Option (List GateCall)) (faults_of : G →
     pub was : old.pass ≡ Some p
     pub now : new.pass ≡ Some q
     pub performed : HasPerformed manifests lines p q (gates_view log_of faults_of old.gates)
-        (gates_view log_of faults_of new.gates) old.said.items new.said.items new.lost
+        (gates_view log_of faults_of new.gates) old.work.items new.work.items new.lost
     pub lost : new.lost ≡ false → old.lost ≡ false

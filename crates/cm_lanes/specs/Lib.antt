@@ -4,6 +4,5 @@ pub mod Lanes
 pub mod Lane
 pub mod Meeting
 pub mod Phases
-pub mod LaneParts
 pub mod Merge
 pub mod Laws

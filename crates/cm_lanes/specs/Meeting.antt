@@ -6,9 +6,8 @@ use Rattle.cm_turn.specs.History.{StartsWith}
 use Rattle.cm_turn.specs.Passes.{seen_up_to}
 use Rattle.cm_world.specs.declared.reply.Entry.{Entry}
 use Rattle.cm_manager.specs.Contract.{RealmPass}
-use Rattle.cm_lanes.specs.declared.lane.Lane.{Lane}
 use Rattle.cm_manager.specs.Kept.{IsOwnPass}
-use Rattle.cm_lanes.specs.Lane.{Met, HasSeen}
+use Rattle.cm_lanes.specs.Lane.{Lane, Met, HasSeen}
 
 module _ {G : Type 0} where
   -- a lane has met others, and what it has seen since then is a prefix of this
@@ -32,7 +31,7 @@ module _ {G : Type 0} where
     pub grows : StartsWith seen pass.seen
     pub own : 0 < n → IsOwnPass (seen_up_to seen pass)
     pub gates : f'.gates ≡ f.gates
-    pub said : f'.said ≡ f.said
+    pub said : f'.work ≡ f.work
     pub lost : f'.lost ≡ f.lost
     pub met : (k : ℕ) (d : Lane G) → k < n → MetWithin seen (slice_index_or xs k d) (slice_index_or ys k d)
     pub rest : (k : ℕ) (d : Lane G) → n ≤ k → slice_index_or ys k d ≡ slice_index_or xs k d

@@ -2,17 +2,12 @@
 -- How the answers of all lanes are merged into the order of the script.
 use Rattle.std.specs.Prelude.{◌≡◌, ◌≢◌, ℕ, ◌<◌, List, [], ◌++◌, map, IfNone, length, option_to_list, Option}
 use Rattle.std.specs.Prelude.{slice_index_or}
-use Rattle.std.specs.declared.alloc.Global.{Global}
-use Rattle.std.specs.declared.collections.VecDeque.{VecDeque}
 use Rattle.cm_command.specs.declared.script.Line.{Line}
 use Rattle.cm_lanes.specs.declared.said.Said.{Said}
 use Rattle.cm_lanes.specs.Script.{AnsweredLine, answered_lines, answers_of}
 use Rattle.cm_lanes.specs.ScriptInside.{said_of}
+use Rattle.cm_lanes.specs.Lane.{Queue}
 use Rattle.cm_lanes.specs.Phases.{told_to}
-
--- the answers of one lane that haven't been merged yet, in its order
-abbrev pub Queue : Type 0
-Queue = VecDeque Said Global
 
 -- the first answer of one lane's queue was taken, if it had one; the other queues stay
 pub record TakesFirst (lane : ℕ) (old new : List Queue) (taken : Option Said) : Type 0 where

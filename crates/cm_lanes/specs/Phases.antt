@@ -10,12 +10,11 @@ use Rattle.cm_gate.specs.declared.asked.GateCall.{GateCall}
 use Rattle.cm_manager.specs.Asking.{no_frame, frame_of}
 use Rattle.cm_manager.specs.Work.{Manifests}
 use Rattle.cm_manager.specs.Contract.{RealmPass}
-use Rattle.cm_lanes.specs.declared.lane.Lane.{Lane}
 use Rattle.cm_lanes.specs.declared.said.Said.{Said}
 use Rattle.cm_lanes.specs.Script.{AnsweredLine, answered_lines, answers_of, ArePhases}
 use Rattle.cm_lanes.specs.ScriptInside.{said_of}
 use Rattle.cm_manager.specs.Kept.{ExtendsPass, IsOwnPass, KeepsPass, gates_view}
-use Rattle.cm_lanes.specs.Lane.{GrewUnless, LaneWorked}
+use Rattle.cm_lanes.specs.Lane.{GrewUnless, Lane, LaneWorked}
 
 -- the answers that one lane got in all phases
 abbrev pub told_to : ℕ → List (List AnsweredLine) → List Said
@@ -77,7 +76,7 @@ module _ {G : Type 0} (log_of : G → Option (List GateCall)) (faults_of : G →
     pub own : IsOwnPass q
     pub keeps : KeepsPass manifests p q (gates_view log_of faults_of old.gates)
         (gates_view log_of faults_of new.gates)
-    pub said : GrewUnless new.lost old.said.items new.said.items (told_to k answered)
+    pub said : GrewUnless new.lost old.work.items new.work.items (told_to k answered)
 
   -- the lanes have performed these phases, one after another
   pub record LanesRan (manifests : Manifests) (phases : List (List Line)) (old new : List

@@ -9,7 +9,7 @@ ghost use Rattle.cm_lanes.specs.Lane.{IsReadyLane, HasPerformed, PutsUnless, Lan
 use crate::Said;
 use cm_command::Line;
 use cm_gate::Gates;
-use cm_manager::{Caller, Manager};
+use cm_manager::{Caller, Desk, Manager};
 use cm_turn::Pass;
 use cm_world::{Entry, Frame};
 use std::alloc::Global;
@@ -17,18 +17,8 @@ use std::collections::VecDeque;
 use std::sync::Wait;
 use std::thread::Threads;
 
-/// What one lane has in hand.
-#[derive(Drop)]
-pub(crate) struct Lane<G> {
-    /// The pass of its caller; `None` only while a call has it.
-    pub(crate) pass: Option<Pass<Entry, Frame>>,
-    /// The gates of its caller.
-    pub(crate) gates: G,
-    /// What was said to its lines so far, in their order.
-    pub(crate) said: VecDeque<Said>,
-    /// Whether an answer is missing there, because memory ran out.
-    pub(crate) lost: bool,
-}
+/// What one lane has in hand: its work is what was said to its lines so far, in their order.
+pub(crate) type Lane<G> = Desk<G, VecDeque<Said>>;
 
 /// Adds an answer to the lane's list. The result says whether it was lost, because memory ran out for
 /// the list, or whether one before it was.
@@ -129,7 +119,7 @@ pub(crate) fn work<R: Threads + Wait + Sync, G: Gates>(
         pass,
         &mut lane.gates,
         lines,
-        &mut lane.said,
+        &mut lane.work,
     );
     put(&mut lane.pass, pass);
     if lost {

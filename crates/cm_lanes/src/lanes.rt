@@ -1,6 +1,7 @@
 //! A script's lines, run in lanes.
 
-ghost use Rattle.std.specs.Prelude.{◌≡◌, All, IfSome, false, flat_map, length, map, true};
+ghost use Rattle.std.specs.Prelude.{◌≡◌, ◌≤◌, [], All, IfSome, false, flat_map, length, map, true};
+ghost use Rattle.std.specs.Prelude.{vec_capacity};
 ghost use Rattle.std.specs.Prelude.{None as NoneOf};
 ghost use Rattle.cm_manager.specs.Closed.{HasEnds};
 ghost use Rattle.cm_manager.specs.Kept.{AreSixteen};
@@ -8,17 +9,17 @@ ghost use Rattle.cm_lanes.specs.Lanes.{RanOrNot};
 ghost use Rattle.cm_lanes.specs.ScriptInside.{IsFit, said_of};
 ghost use Rattle.cm_lanes.specs.Merge.{QueuesHaveAll};
 
-use crate::Lanes;
 use crate::merge::merge;
-use crate::parts::{LaneParts, LaneRoom, make_lanes, room_for, take_apart};
-use crate::phase::run_all;
+use crate::phase::{LANES, run_all};
+use crate::{Lanes, Said};
 use cm_command::Line;
 use cm_gate::Gates;
-use cm_manager::Manager;
+use cm_manager::{DeskParts, DeskRoom, Manager, clear_desks, make_desks, room_for_desks};
 use cm_names::List;
 use cm_turn::Pass;
 use cm_world::{Entry, Frame};
 use std::alloc::Global;
+use std::collections::VecDeque;
 use std::sync::Wait;
 use std::thread::Threads;
 
@@ -48,36 +49,58 @@ pub fn run_lanes<R: Threads + Wait + Sync, G: Gates + Send + Drop>(
     ensures gates { length result.gates ≡ 16 }
     ensures ended { All (λ p. HasEnds p.mine) passes → All (λ p. HasEnds p.mine) result.passes }
 {
-    let Ok(room) = room_for(alloc) else {
+    let Ok(room) = room_for_desks(alloc, LANES) else {
         return Lanes {
             passes,
             gates,
             said: None,
         };
     };
-    let LaneRoom { lanes, parts } = room;
-    let lanes = make_lanes(alloc, lanes, passes, gates);
+    let DeskRoom {
+        desks,
+        works,
+        parts,
+    } = room;
+    let queues = new_queues(alloc, works);
+    let lanes = make_desks(desks, passes, gates, queues);
     let lanes = run_all(rt, alloc, manager, lanes, phases);
-    let parts = take_apart(lanes, parts);
+    let parts = clear_desks(lanes, parts);
     hand_back(alloc, phases, parts)
+}
+
+/// A queue for each lane, to which nothing was said yet.
+fn new_queues(alloc: Global, queues: Vec<VecDeque<Said>>) -> Vec<VecDeque<Said>>
+    requires room { (queues.items ≡ []) × (16 ≤ vec_capacity queues) }
+    ensures count { length result.items ≡ 16 }
+    ensures none { All (λ q. q.items ≡ []) result.items }
+{
+    let mut queues = queues;
+    for _ in 0..LANES {
+        queues.push_reserved(VecDeque::new(alloc));
+    }
+    queues
 }
 
 /// Hands back what lanes were taken apart into, with what was said to them in the order of the
 /// script, unless an answer was lost or memory runs out.
-fn hand_back<G: Drop>(alloc: Global, phases: &[List<Line>], parts: LaneParts<G>) -> Lanes<G>
-    requires count { length parts.said.items ≡ 16 }
+fn hand_back<G: Drop>(
+    alloc: Global,
+    phases: &[List<Line>],
+    parts: DeskParts<G, Vec<VecDeque<Said>>>,
+) -> Lanes<G>
+    requires count { length parts.works.items ≡ 16 }
     requires fit { All (All IsFit) phases.now }
-    requires has { parts.lost ≡ false → QueuesHaveAll phases.now parts.said.items }
+    requires has { parts.lost ≡ false → QueuesHaveAll phases.now parts.works.items }
     ensures passes { result.passes ≡ parts.passes.items }
     ensures gates { result.gates ≡ parts.gates.items }
     ensures lost { parts.lost ≡ true → result.said ≡ NoneOf }
-    ensures said { (is : QueuesHaveAll phases.now parts.said.items) →
+    ensures said { (is : QueuesHaveAll phases.now parts.works.items) →
         IfSome result.said (λ said. said ≡ flat_map (λ p. map said_of p) is.answered) }
 {
-    let LaneParts {
+    let DeskParts {
         passes,
         gates,
-        said,
+        works: said,
         lost,
     } = parts;
     let said = match lost {

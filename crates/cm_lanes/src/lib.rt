@@ -10,7 +10,7 @@
 //! | `Lanes` | what comes back of a whole script |
 //! | `Laws` | what follows of it: entries fall into runs, and all answers may be lost |
 //! | `Lane`, `Meeting`, `Phases` | what the lanes have in hand, from step to step |
-//! | `LaneParts`, `Merge` | how lanes are made and taken apart, and answers put in order |
+//! | `Merge` | how answers are put in order |
 #![tactic(auto)]
 
 mod lane;
@@ -18,7 +18,6 @@ pub mod lanes;
 pub mod laws;
 mod meeting;
 mod merge;
-mod parts;
 mod phase;
 pub mod said;
 

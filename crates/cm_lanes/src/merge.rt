@@ -3,7 +3,8 @@
 ghost use Rattle.std.specs.Prelude.{◌≡◌, ◌<◌, ◌++◌, ℕ, All, IfOk, OnOk};
 ghost use Rattle.std.specs.Prelude.{flat_map, length, map, slice_index_or};
 ghost use Rattle.cm_lanes.specs.ScriptInside.{IsFit, said_of};
-ghost use Rattle.cm_lanes.specs.Merge.{QueuesStartWith, QueuesHaveAll, Queue, TakesFirst};
+ghost use Rattle.cm_lanes.specs.Lane.{Queue};
+ghost use Rattle.cm_lanes.specs.Merge.{QueuesStartWith, QueuesHaveAll, TakesFirst};
 
 use crate::Said;
 use cm_command::Line;

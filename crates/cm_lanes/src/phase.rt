@@ -1,14 +1,12 @@
 //! Phases: the lanes side by side, and then all together.
 
 ghost use Rattle.std.specs.Prelude.{◌≡◌, ◌<◌, ℕ, All, length, slice_index_or};
-ghost use Rattle.cm_lanes.specs.declared.lane.Lane.{Lane as LaneOf};
 ghost use Rattle.cm_lanes.specs.ScriptInside.{IsFit};
-ghost use Rattle.cm_lanes.specs.Lane.{IsReadyLane, LaneWorked};
+ghost use Rattle.cm_lanes.specs.Lane.{IsReadyLane, LaneWorked, Lane as LaneOf};
 ghost use Rattle.cm_lanes.specs.Phases.{AreLanes, LanesRan, PassedAll};
 
 use crate::lane::{Lane, work};
 use crate::meeting::meet_all;
-use crate::parts::LANES;
 use cm_command::Line;
 use cm_gate::Gates;
 use cm_manager::Manager;
@@ -17,6 +15,9 @@ use std::alloc::Global;
 use std::sync::Wait;
 use std::thread;
 use std::thread::Threads;
+
+/// The number of lanes.
+pub(crate) const LANES: usize = 16;
 
 /// Performs the lines of a phase, each lane its own, side by side.
 fn work_all<R: Threads + Wait + Sync, G: Gates + Send>(

@@ -6,3 +6,4 @@ pub mod starts
 pub mod checks
 pub mod Crossing
 pub mod callers
+pub mod desked

@@ -22,3 +22,4 @@ pub mod Done
 pub mod Kept
 pub mod Laws
 pub mod Questions
+pub mod Desks

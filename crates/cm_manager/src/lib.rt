@@ -9,6 +9,7 @@ mod acts;
 mod began;
 pub mod caller;
 mod calls;
+pub mod desks;
 mod doctor;
 pub mod laws;
 pub mod manager;
@@ -23,4 +24,5 @@ mod turns;
 mod work;
 
 pub use caller::Caller;
+pub use desks::{Desk, DeskParts, DeskRoom, clear_desks, make_desks, room_for_desks};
 pub use manager::Manager;

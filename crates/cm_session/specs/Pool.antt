@@ -7,13 +7,18 @@ use Rattle.cm_gate.specs.declared.asked.GateCall.{GateCall}
 use Rattle.cm_manager.specs.Contract.{GatesView, RealmPass}
 use Rattle.cm_manager.specs.Gated.{gates_view}
 use Rattle.cm_manager.specs.Work.{Manifests}
+use Rattle.cm_manager.specs.declared.desks.Desk.{Desk}
 use Rattle.cm_turn.specs.Passes.{LockView}
 use Rattle.cm_session.specs.declared.ended.Ended.{Ended}
-use Rattle.cm_session.specs.declared.workers.Worker.{Worker}
+use Rattle.cm_session.specs.declared.workers.DoorWork.{DoorWork}
 use Rattle.cm_session.specs.Doorway.{DoorPass, IsLater, IsDoorDone, links_of, sessions_of}
 use Rattle.cm_session.specs.Links.{LinkView}
 use Rattle.cm_session.specs.Serving.{AreWell, EndsLost, IsOfLink, ServesVisits, ServedLink}
 use Rattle.cm_session.specs.Session.{Session}
+
+-- what a worker of these gates and links has in hand
+abbrev pub Worker : Type 0 → Type 0 → Type 0
+Worker G L = Desk G (DoorWork L)
 
 -- one link was served by one session, and stands last among the worker's links then
 pub record ServesLink {L : Type 0} (view : L
@@ -54,11 +59,11 @@ module _ {G L : Type 0} where
     pub there : worker.pass ≡ Some pass
     pub of_realm : pass.lock ≡ realm.lock
     pub at_door : DoorPass
-    pub there_too : worker.at_door ≡ Some at_door
+    pub there_too : worker.work.at_door ≡ Some at_door
     pub of_door : at_door.lock ≡ door.lock
     pub new : at_door.mine ≡ []
-    pub none : worker.links.items ≡ []
-    pub room : at_door.caller < workers → sessions_of at_door ≤ vec_capacity worker.links
+    pub none : worker.work.links.items ≡ []
+    pub room : at_door.caller < workers → sessions_of at_door ≤ vec_capacity worker.work.links
     pub well : worker.lost ≡ false
 
 module _ {G L : Type 0} (log_of : G → Option (List GateCall)) (faults_of : G → ℕ) (view : L → LinkView) where
@@ -72,10 +77,10 @@ module _ {G L : Type 0} (log_of : G → Option (List GateCall)) (faults_of : G �
     pub e : DoorPass
     pub was : old.pass ≡ Some p
     pub now : new.pass ≡ Some q
-    pub was_at_door : old.at_door ≡ Some d
-    pub now_at_door : new.at_door ≡ Some e
+    pub was_at_door : old.work.at_door ≡ Some d
+    pub now_at_door : new.work.at_door ≡ Some e
     pub served : HasServed view manifests visits p q (gates_view log_of faults_of old.gates)
-        (gates_view log_of faults_of new.gates) d e new.links.items
+        (gates_view log_of faults_of new.gates) d e new.work.links.items
     pub idle : workers ≤ d.caller → visits ≡ []
     pub lost : new.lost ≡ true → EndsLost visits
     pub well : new.lost ≡ false → AreWell visits

@@ -1,46 +1,42 @@
 //! Workers made of passes and gates, and taken apart again.
 
-ghost use Rattle.std.specs.Prelude.{◌≡◌, ◌<◌, ◌≤◌, [], All, IfOk, Some, false, length, map, true};
-ghost use Rattle.std.specs.Prelude.{vec_capacity};
-ghost use Rattle.cm_session.specs.PoolParts.{AreWorkerParts, HasPasses, PoolHasRoom};
-ghost use Rattle.cm_session.specs.PoolParts.{PoolPartsHaveRoom, HasRooms, NoWorkerParts};
-ghost use Rattle.cm_session.specs.PoolParts.{PutsPoolParts};
+ghost use Rattle.std.specs.Prelude.{◌≡◌, ◌<◌, ◌≤◌, [], All, IfOk, Some, length, map, vec_capacity};
+ghost use Rattle.cm_manager.specs.Desks.{DeskPartsHaveRoom, NoDeskParts};
+ghost use Rattle.cm_session.specs.PoolParts.{AreWorkerParts, DoorPartsHaveRoom, HasDoorPass, HasPasses};
+ghost use Rattle.cm_session.specs.PoolParts.{HasRooms, PoolHasRoom};
 
 use crate::doorway::{Accepted, Opening};
 use crate::served::Back;
-use crate::workers::{WORKERS, Worker};
+use crate::workers::{DoorWork, WORKERS, Worker};
+use cm_manager::{DeskParts, DeskRoom, clear_desks, room_for_desks};
 use cm_names::List;
 use cm_turn::Pass;
-use cm_world::{Entry, Frame};
 use std::alloc::{AllocError, Global};
 
 /// Room for the workers, for the links of each, and for all that comes back.
 #[derive(Drop)]
 pub(crate) struct PoolRoom<G, L> {
     /// No workers yet.
-    pub(crate) pool: Vec<Worker<G, L>>,
+    pub(crate) pool: DeskRoom<G, DoorWork<L>>,
     /// Room for the links of each worker, worker by worker.
     pub(crate) links: Vec<Vec<L>>,
-    /// No parts yet.
-    pub(crate) parts: PoolParts<G, L>,
+    /// No parts of works yet.
+    pub(crate) parts: DoorParts<L>,
     /// No links yet.
     pub(crate) back: Vec<Back<L>>,
 }
 
-/// What workers are taken apart into.
+/// What the works of workers are taken apart into.
 #[derive(Drop)]
-pub(crate) struct PoolParts<G, L> {
-    /// The passes at the realm, worker by worker.
-    pub(crate) passes: Vec<Pass<Entry, Frame>>,
+pub(crate) struct DoorParts<L> {
     /// The passes at the door, worker by worker.
     pub(crate) at_door: Vec<Pass<Accepted, Opening>>,
-    /// The gates, worker by worker.
-    pub(crate) gates: Vec<G>,
     /// The links that each worker served.
     pub(crate) links: Vec<Vec<L>>,
-    /// Whether a session ended for lack of memory.
-    pub(crate) lost: bool,
 }
+
+/// What workers are taken apart into.
+pub(crate) type PoolParts<G, L> = DeskParts<G, DoorParts<L>>;
 
 /// Takes room for so many links for each of the first workers, and none for the others.
 fn link_rooms<L: Drop>(
@@ -84,107 +80,82 @@ pub(crate) fn room_for<G: Drop, L: Drop>(
 {
     let sessions = sessions as usize;
     Ok(PoolRoom {
-        pool: Vec::with_capacity(alloc, WORKERS)?,
+        pool: room_for_desks(alloc, WORKERS)?,
         links: link_rooms(alloc, sessions, workers as usize)?,
-        parts: PoolParts {
-            passes: Vec::with_capacity(alloc, WORKERS)?,
+        parts: DoorParts {
             at_door: Vec::with_capacity(alloc, WORKERS)?,
-            gates: Vec::with_capacity(alloc, WORKERS)?,
             links: Vec::with_capacity(alloc, WORKERS)?,
-            lost: false,
         },
         back: Vec::with_capacity(alloc, sessions)?,
     })
 }
 
-/// Makes a worker of each pass at the realm, with what stands at its place in the other lists.
-pub(crate) fn make_pool<G: Drop, L: Drop>(
-    pool: Vec<Worker<G, L>>,
-    passes: List<Pass<Entry, Frame>>,
+/// Makes the work of each pass at the door, with the room for links at its place.
+pub(crate) fn make_works<L: Drop>(
+    works: Vec<DoorWork<L>>,
     at_door: List<Pass<Accepted, Opening>>,
-    gates: List<G>,
     links: Vec<Vec<L>>,
-) -> Vec<Worker<G, L>>
-    requires room { (pool.items ≡ []) × (length passes ≤ vec_capacity pool) }
-    requires at_door { length at_door ≡ length passes }
-    requires gates { length gates ≡ length passes }
-    requires links { length links.items ≡ length passes }
-    ensures passes { map (λ w. w.pass) result.items ≡ map Some passes }
+) -> Vec<DoorWork<L>>
+    requires room { (works.items ≡ []) × (length at_door ≤ vec_capacity works) }
+    requires links { length links.items ≡ length at_door }
     ensures at_door { map (λ w. w.at_door) result.items ≡ map Some at_door }
-    ensures gates { map (λ w. w.gates) result.items ≡ gates }
     ensures links { map (λ w. w.links) result.items ≡ links.items }
-    ensures well { All (λ w. w.lost ≡ false) result.items }
 {
-    let mut pool = pool;
-    let mut doors = at_door.into_vec().into_iter();
-    let mut all_gates = gates.into_vec().into_iter();
+    let mut works = works;
     let mut rooms = links.into_iter();
-    for pass in passes.into_vec() {
-        let Some(at_door) = doors.next() else {
-            unreachable!()
-        };
-        let Some(gates) = all_gates.next() else {
-            unreachable!()
-        };
+    for pass in at_door.into_vec() {
         let Some(links) = rooms.next() else {
             unreachable!()
         };
-        pool.push_reserved(Worker {
-            pass: Some(pass),
-            at_door: Some(at_door),
-            gates,
+        works.push_reserved(DoorWork {
+            at_door: Some(pass),
             links,
-            lost: false,
         });
     }
-    pool
+    works
+}
+
+/// Takes works apart into lists of their parts, for which there is room.
+fn part_works<L: Drop>(works: Vec<DoorWork<L>>, parts: &mut DoorParts<L>)
+    requires passes { All HasDoorPass works.items }
+    requires room { DoorPartsHaveRoom (length works.items) parts.old }
+    ensures at_door { map Some parts.new.at_door.items ≡ map (λ w. w.at_door) works.items }
+    ensures links { parts.new.links.items ≡ map (λ w. w.links) works.items }
+{
+    for work in works {
+        let DoorWork { at_door, links } = work;
+        let Some(at_door) = at_door else {
+            unreachable!()
+        };
+        parts.at_door.push_reserved(at_door);
+        parts.links.push_reserved(links);
+    }
 }
 
 /// Takes workers apart into lists of their parts, for which there is room.
 pub(crate) fn take_apart<G: Drop, L: Drop>(
     pool: Vec<Worker<G, L>>,
-    parts: PoolParts<G, L>,
+    parts: DeskParts<G, Vec<DoorWork<L>>>,
+    door: DoorParts<L>,
 ) -> PoolParts<G, L>
     requires passes { All HasPasses pool.items }
-    requires empty { NoWorkerParts parts }
-    requires room { PoolPartsHaveRoom (length pool.items) parts }
+    requires empty { NoDeskParts parts }
+    requires room { DeskPartsHaveRoom (length pool.items) parts }
+    requires door { DoorPartsHaveRoom (length pool.items) door }
     ensures { AreWorkerParts pool.items result }
 {
-    let mut parts = parts;
-    for worker in pool {
-        put_parts(worker, &mut parts);
-    }
-    parts
-}
-
-/// Adds the parts of a worker to the lists, for which there is room.
-fn put_parts<G: Drop, L: Drop>(worker: Worker<G, L>, parts: &mut PoolParts<G, L>)
-    requires passes { HasPasses worker }
-    requires room { PoolPartsHaveRoom 1 parts.old }
-    ensures { PutsPoolParts worker parts.old parts.new }
-{
-    let Worker {
-        pass,
-        at_door,
+    let DeskParts {
+        passes,
         gates,
-        links,
+        works,
         lost,
-    } = worker;
-    let Some(pass) = pass else { unreachable!() };
-    let Some(at_door) = at_door else {
-        unreachable!()
-    };
-    parts.passes.push_reserved(pass);
-    parts.at_door.push_reserved(at_door);
-    parts.gates.push_reserved(gates);
-    parts.links.push_reserved(links);
-    parts.lost = is_either(parts.lost, lost);
-}
-
-/// Whether one of the two holds.
-fn is_either(one: bool, other: bool) -> bool
-    ensures neither { result ≡ false → (one ≡ false) × (other ≡ false) }
-    ensures other { result ≡ true → one ≡ false → other ≡ true }
-{
-    one || other
+    } = clear_desks(pool, parts);
+    let mut door = door;
+    part_works(works, &mut door);
+    DeskParts {
+        passes,
+        gates,
+        works: door,
+        lost,
+    }
 }

@@ -13,12 +13,12 @@ ghost use Rattle.cm_session.specs.declared.served.Cause.TheVariants as cause;
 ghost use Rattle.cm_turn.specs.Passes.{AreAll, new_passes};
 
 use crate::doorway::{Accepted, Doorway, Opening};
-use crate::pool::{PoolParts, PoolRoom, make_pool, room_for, take_apart};
+use crate::pool::{DoorParts, PoolParts, PoolRoom, make_works, room_for, take_apart};
 use crate::served::{Back, Cause, Served};
 use crate::workers::run_all;
 use cm_gate::Gates;
 use cm_io::Door;
-use cm_manager::Manager;
+use cm_manager::{DeskParts, DeskRoom, Manager, make_desks};
 use cm_names::List;
 use cm_turn::{Pass, Turn};
 use cm_world::{Entry, Frame};
@@ -87,12 +87,18 @@ where
     let PoolRoom {
         pool,
         links,
-        parts,
+        parts: door,
         back,
     } = room;
-    let pool = make_pool(pool, passes, at_door, gates, links);
+    let DeskRoom {
+        desks,
+        works,
+        parts,
+    } = pool;
+    let works = make_works(works, at_door, links);
+    let pool = make_desks(desks, passes, gates, works);
     let pool = run_all(rt, alloc, manager, &turn, workers, pool);
-    let parts = take_apart(pool, parts);
+    let parts = take_apart(pool, parts, door);
     hand_back(turn, parts, back)
 }
 
@@ -183,20 +189,19 @@ fn hand_back<G: Drop, D: Door>(
     parts: PoolParts<G, D::Link>,
     back: Vec<Back<D::Link>>,
 ) -> Served<D, D::Link, G>
-    requires all { AreAll turn parts.at_door.items }
-    requires counts { CountsLinks parts.at_door.items parts.links.items (vec_capacity back) }
+    requires all { AreAll turn parts.works.at_door.items }
+    requires counts { CountsLinks parts.works.at_door.items parts.works.links.items (vec_capacity back) }
     requires none { back.items ≡ [] }
     ensures passes { result.passes ≡ parts.passes.items }
     ensures gates { result.gates ≡ parts.gates.items }
-    ensures links { result.links ≡ links_from 0 parts.links.items }
-    ensures closed { ClosesDoor parts.at_door.items (D.counts result.door) (D.place result.door)
+    ensures links { result.links ≡ links_from 0 parts.works.links.items }
+    ensures closed { ClosesDoor parts.works.at_door.items (D.counts result.door) (D.place result.door)
         (length result.links) parts.lost result.cause }
 {
-    let PoolParts {
+    let DeskParts {
         passes,
-        at_door,
         gates,
-        links,
+        works: DoorParts { at_door, links },
         lost,
     } = parts;
     let doorway = turn.close(List::from_vec(at_door));

@@ -4,8 +4,8 @@ ghost use Rattle.std.specs.Prelude.{◌≡◌, ◌≢◌, ◌<◌, ◌≤◌, �
 ghost use Rattle.std.specs.Prelude.{vec_capacity};
 ghost use Rattle.cm_manager.specs.Caller.{IsSameCaller};
 ghost use Rattle.cm_manager.specs.Gated.{gates_view};
-ghost use Rattle.cm_session.specs.declared.workers.Worker.{Worker as WorkerOf};
 ghost use Rattle.cm_session.specs.Pool.{PoolWorked, DidWork, IsReadyWorker, ServesLink, ServesLinks};
+ghost use Rattle.cm_session.specs.Pool.{Worker as WorkerOf};
 ghost use Rattle.cm_session.specs.Doorway.{OnGiven, TakesTurn, sessions_of};
 ghost use Rattle.cm_session.specs.Links.{view_of};
 ghost use Rattle.cm_session.specs.Serving.{IsNewLink};
@@ -15,7 +15,7 @@ use crate::doorway::{Accepted, Doorway, Opening};
 use crate::lines::serve;
 use cm_gate::Gates;
 use cm_io::{Accept, Door, Link};
-use cm_manager::{Caller, Manager};
+use cm_manager::{Caller, Desk, Manager};
 use cm_turn::{Pass, Turn};
 use cm_world::{Entry, Frame};
 use std::alloc::Global;
@@ -26,20 +26,17 @@ use std::thread::Threads;
 /// The number of passes and gates, and the most workers.
 pub(crate) const WORKERS: usize = 16;
 
-/// What a worker has in hand.
+/// What a worker has in hand of its work at the door.
 #[derive(Drop)]
-pub(crate) struct Worker<G, L> {
-    /// The pass of its caller at the realm; `None` only while a call has it.
-    pub(crate) pass: Option<Pass<Entry, Frame>>,
+pub(crate) struct DoorWork<L> {
     /// Its pass at the door; `None` only while a call has it.
     pub(crate) at_door: Option<Pass<Accepted, Opening>>,
-    /// The gates of its caller.
-    pub(crate) gates: G,
     /// The links that it serves, in the order in which they came.
     pub(crate) links: Vec<L>,
-    /// Whether a session of its ended for lack of memory.
-    pub(crate) lost: bool,
 }
+
+/// What a worker has in hand. Something is lost there where a session ended for lack of memory.
+pub(crate) type Worker<G, L> = Desk<G, DoorWork<L>>;
 
 /// Takes a turn at the door, and accepts in it unless no further accept is due.
 fn take_turn<R: Threads + Wait + Sync, D: Door>(
@@ -173,11 +170,11 @@ fn work<R: Threads + Wait + Sync, G: Gates, D: Door>(
     ensures worked { DidWork G.log G.faults (view_of D.Link.Source D.Link.Sink)
         manager.now.manifests workers worker.old worker.new }
 {
-    let Some(at_door) = worker.at_door.take() else {
+    let Some(at_door) = worker.work.at_door.take() else {
         unreachable!()
     };
     if is_idle(&at_door, workers) {
-        worker.at_door = Some(at_door);
+        worker.work.at_door = Some(at_door);
         return;
     }
     let Some(pass) = worker.pass.take() else {
@@ -191,10 +188,10 @@ fn work<R: Threads + Wait + Sync, G: Gates, D: Door>(
         pass,
         at_door,
         &mut worker.gates,
-        &mut worker.links,
+        &mut worker.work.links,
     );
     worker.pass = Some(pass);
-    worker.at_door = Some(at_door);
+    worker.work.at_door = Some(at_door);
     worker.lost = lost;
 }
 

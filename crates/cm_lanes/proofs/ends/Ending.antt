@@ -15,18 +15,16 @@ use Rattle.cm_manager.specs.Asking.{no_frame, frame_of}
 use Rattle.cm_manager.specs.Work.{Manifests}
 use Rattle.cm_manager.specs.Contract.{RealmPass, GatesView}
 use Rattle.cm_manager.specs.Closed.{HasEnds}
+use Rattle.cm_manager.specs.Desks.{AreDeskParts, AreDesksOf, DeskLists, HasPassIn}
 use Rattle.cm_manager.proofs.left.HavingEnds.{grown_has_ends}
+use Rattle.cm_lanes.specs.Lane.{Lane, Queue}
 use Rattle.cm_lanes.specs.declared.said.Said.{Said}
 use Rattle.cm_lanes.specs.declared.said.Lanes.{Lanes}
-use Rattle.cm_lanes.specs.declared.lane.Lane.{Lane}
-use Rattle.cm_lanes.specs.declared.parts.LaneParts.{LaneParts}
 use Rattle.cm_lanes.specs.Script.{AnsweredLine, answers_of, PerformsLines, IsPhase, ArePhases, none_left, one_first}
 use Rattle.cm_lanes.specs.ScriptInside.{said_of}
 use Rattle.cm_manager.specs.Kept.{AreSixteen, ExtendsPass, KeepsPass, KeepsEach, frame_at, gates_view}
 use Rattle.cm_lanes.specs.Lanes.{RanLanes, RanOrNot}
 use Rattle.cm_lanes.specs.Phases.{told_to, AreLanes, lane_frames, frame_in_lane, LanesRan}
-use Rattle.cm_lanes.specs.LaneParts.{AreLaneParts, HasPassIn, IsFreshLane}
-use Rattle.cm_lanes.specs.Merge.{Queue}
 use Rattle.cm_manager.proofs.calling.Sixteen.{sixteen_long}
 
 -- phases over other frames
@@ -80,13 +78,15 @@ module _ {G : Type 0} (log_of : G → Option (List GateCall)) (faults_of : G →
   have_passes count k d lt = (let r = is.each k d (omega (arith, is.long, count)) in record { pass = r.q; there = r.now })
 
   -- what each lane was told, where nothing was lost
-  pub told_each : (parts : LaneParts G) → length xs ≡ 16 → All IsFreshLane xs → AreLaneParts ys parts → parts.lost ≡ false → (k : ℕ) (q : Queue) → k < 16 → (get_or parts.said.items k q).items ≡ told_to k is.answered
-  told_each parts count new are kept k q lt = said_at (some_lane ys (is.long ∙ count)) where
-    said_at : Lane G → (get_or parts.said.items k q).items ≡ told_to k is.answered
+  pub told_each : (passes : List RealmPass) (gates : List G) (queues : List Queue) (parts : DeskLists G Queue) → length xs ≡ 16 → AreDesksOf passes gates queues xs → All (λ (q : Queue). q.items ≡ []) queues → AreDeskParts ys parts → parts.lost ≡ false → (k : ℕ) (q : Queue) → k < 16 → (get_or parts.works.items k q).items ≡ told_to k is.answered
+  told_each passes gates queues parts count made new are kept k q lt = said_at (some_lane ys (is.long ∙ count)) where
+    said_at : Lane G → (get_or parts.works.items k q).items ≡ told_to k is.answered
     said_at d =
         let r = is.each k d lt in
-        let here : (get_or ys k d).said ≡ get_or parts.said.items k q = at_map (λ (l : Lane G). l.said) ys parts.said.items k d q (sym are.said) (omega (arith, is.long, count, lt)) in
-        sym (ap (λ (q : Queue). q.items) here) ∙ r.said (are.kept kept k d (omega (arith, is.long, count, lt))) ∙ ap (λ (l : List Said). l ++ told_to k is.answered) (new k d (omega (arith, count, lt))).said
+        let was : (get_or xs k d).work ≡ get_or queues k q = at_map (λ (l : Lane G). l.work) xs queues k d q made.works_are (omega (arith, count, lt)) in
+        let many : length queues ≡ length xs = sym (ap (λ (l : List Queue). length l) made.works_are) ∙ length-map xs (λ (l : Lane G). l.work) in
+        let here : (get_or ys k d).work ≡ get_or parts.works.items k q = at_map (λ (l : Lane G). l.work) ys parts.works.items k d q (sym are.works) (omega (arith, is.long, count, lt)) in
+        sym (ap (λ (q : Queue). q.items) here) ∙ r.said (are.well kept k d (omega (arith, is.long, count, lt))) ∙ ap (λ (l : List Said). l ++ told_to k is.answered) (ap (λ (q : Queue). q.items) was ∙ new k q (omega (arith, many, count, lt)))
 
   -- the frames of the lanes are those of the passes
   frames_same : (passes : List RealmPass) → length xs ≡ 16 → map (λ l. l.pass) xs ≡ map Some passes → (c : ℕ) → c < 16 → lane_frames xs c ≡ frame_at passes c

@@ -1,5 +1,5 @@
 -- A caller's own lines, one after another.
-use Rattle.std.proofs.Common.{◌≡◌, ℕ, ◌==◌, List, [], ◌∷◌, ◌++◌, map, cond, Bool, true, false, true≢false, refl, sym, ap, ◌∙◌, subst, append_assoc, append-nil, Option, Some, Result}
+use Rattle.std.proofs.Common.{◌≡◌, ℕ, ◌==◌, List, [], ◌∷◌, ◌++◌, map, cond, Bool, true, false, refl, sym, ap, ◌∙◌, subst, append_assoc, append-nil, Result}
 use Rattle.std.proofs.lemmas.List.{map-append}
 use Rattle.std.proofs.lemmas.List.Elements.{filter-append}
 use Rattle.cm_world.specs.declared.answer.Answer.{Answer}
@@ -14,13 +14,11 @@ use Rattle.cm_manager.specs.Turns.{IsLaterHistory}
 use Rattle.cm_manager.specs.Calls.{Calls}
 use Rattle.cm_manager.specs.Work.{Manifests}
 use Rattle.cm_manager.specs.Contract.{RealmPass, GatesView, IsWholeCall}
-use Rattle.cm_gate.specs.declared.asked.GateCall.{GateCall}
-use Rattle.cm_lanes.specs.declared.lane.Lane.{Lane}
 use Rattle.cm_lanes.specs.declared.said.Said.{Said}
 use Rattle.cm_lanes.specs.Script.{AnsweredLine, answered_lines, PerformsLines, rests, performs}
 use Rattle.cm_lanes.specs.ScriptInside.{said_of, lines_of}
-use Rattle.cm_manager.specs.Kept.{IsOwnPass, KeepsPass, gates_view}
-use Rattle.cm_lanes.specs.Lane.{GrewUnless, HasPerformed, LaneWorked, PutsUnless}
+use Rattle.cm_manager.specs.Kept.{IsOwnPass, KeepsPass}
+use Rattle.cm_lanes.specs.Lane.{GrewUnless, HasPerformed, PutsUnless}
 use Rattle.cm_manager.proofs.calling.Joining.{later-trans}
 use Rattle.cm_manager.proofs.calling.Keeping.{keeps_nothing, keeps_trans, keeps_helps}
 use Rattle.cm_turn.proofs.Histories.{starts-refl}

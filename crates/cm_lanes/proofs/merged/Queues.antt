@@ -5,11 +5,12 @@ use Rattle.std.proofs.lemmas.Grind.{flat_map-append}
 use Rattle.cm_facts.proofs.Numbers.{eq_self}
 use Rattle.cm_world.specs.declared.answer.Refusal.TheVariants as refusal
 use Rattle.cm_command.specs.declared.script.Line.{Line}
+use Rattle.cm_lanes.specs.Lane.{Queue}
 use Rattle.cm_lanes.specs.declared.said.Said.{Said}
 use Rattle.cm_lanes.specs.Script.{AnsweredLine, answered_lines, answers_of}
 use Rattle.cm_lanes.specs.ScriptInside.{said_of}
 use Rattle.cm_lanes.specs.Phases.{told_to}
-use Rattle.cm_lanes.specs.Merge.{Queue, TakesFirst, QueuesStartWith}
+use Rattle.cm_lanes.specs.Merge.{TakesFirst, QueuesStartWith}
 use Rattle.cm_lanes.proofs.merged.Weaving.{answers_first}
 
 -- the first n of these answers are moved

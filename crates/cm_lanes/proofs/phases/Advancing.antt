@@ -16,11 +16,10 @@ use Rattle.cm_manager.specs.Asking.{no_frame, frame_of, frame_in}
 use Rattle.cm_manager.specs.Work.{Manifests}
 use Rattle.cm_manager.specs.Contract.{RealmPass}
 use Rattle.cm_lanes.specs.declared.said.Said.{Said}
-use Rattle.cm_lanes.specs.declared.lane.Lane.{Lane}
 use Rattle.cm_lanes.specs.Script.{AnsweredLine, answered_lines, answers_of, PerformsLines, IsPhase, ArePhases, none_left, one_first}
 use Rattle.cm_lanes.specs.ScriptInside.{said_of, lines_of, IsFit}
 use Rattle.cm_manager.specs.Kept.{KeepsPass, gates_view}
-use Rattle.cm_lanes.specs.Lane.{IsReadyLane, Met, MetAll, GrewUnless}
+use Rattle.cm_lanes.specs.Lane.{Lane, IsReadyLane, Met, MetAll, GrewUnless}
 use Rattle.cm_lanes.specs.Phases.{told_to, IsLaneOf, AreLanes, frame_in_lane, lane_frames, Passed, PassedAll, LaneRan, LanesRan}
 use Rattle.cm_manager.proofs.calling.Keeping.{keeps_learns, keeps_trans}
 use Rattle.cm_lanes.proofs.merged.Weaving.{LaneParts, Merged, merge}
@@ -51,9 +50,9 @@ module _ {G : Type 0} (log_of : G → Option (List GateCall)) (faults_of : G →
         seen = w.seen;
         own = w.own;
         keeps = keeps_trans manifests is.p is.q w.worked.q _ _ _ is.keeps keeps;
-        said = subst (λ (l : List Said). GrewUnless z.lost x.said.items z.said.items l) (sym (told_more k answered a))
-            (said_trans y.lost z.lost x.said.items y.said.items z.said.items (told_to k answered) (map said_of (answers_of k a)) w.worked.lost is.said
-            (subst (λ (l : List AnsweredLine). GrewUnless z.lost y.said.items z.said.items (map said_of l)) (sym answers) w.worked.performed.said));
+        said = subst (λ (l : List Said). GrewUnless z.lost x.work.items z.work.items l) (sym (told_more k answered a))
+            (said_trans y.lost z.lost x.work.items y.work.items z.work.items (told_to k answered) (map said_of (answers_of k a)) w.worked.lost is.said
+            (subst (λ (l : List AnsweredLine). GrewUnless z.lost y.work.items z.work.items (map said_of l)) (sym answers) w.worked.performed.said));
       }
 
   -- what the lane did in the phase, from where all had met
@@ -154,7 +153,7 @@ module _ {G : Type 0} (log_of : G → Option (List GateCall)) (faults_of : G →
     seen = refl;
     own = m.own;
     keeps = subst (λ (g : G). KeepsPass manifests m.pass (seen_up_to s m.pass) (gates_view log_of faults_of x.gates) (gates_view log_of faults_of g)) (sym m.gates) (keeps_learns manifests m.pass s (gates_view log_of faults_of x.gates) m.grows m.own);
-    said = λ kept. ap (λ (q : _). q.items) m.said ∙ sym (append-nil x.said.items);
+    said = λ kept. ap (λ (q : _). q.items) m.said ∙ sym (append-nil x.work.items);
   }
 
   pub ran_none : (turn : LockView) (manifests : Manifests) (xs ys : List (Lane G)) → AreLanes turn xs → MetAll xs ys → LanesRan log_of faults_of manifests [] xs ys

@@ -9,9 +9,8 @@ use Rattle.cm_gate.specs.declared.asked.GateCall.{GateCall}
 use Rattle.cm_manager.specs.Asking.{frame_of}
 use Rattle.cm_manager.specs.Work.{Manifests}
 use Rattle.cm_manager.specs.Contract.{RealmPass}
-use Rattle.cm_lanes.specs.declared.lane.Lane.{Lane}
 use Rattle.cm_manager.specs.Kept.{IsOwnPass, KeepsPass, gates_view}
-use Rattle.cm_lanes.specs.Lane.{Met, MetAll, LaneWorked}
+use Rattle.cm_lanes.specs.Lane.{Lane, Met, MetAll, LaneWorked}
 use Rattle.cm_lanes.specs.Phases.{Passed, PassedAll}
 use Rattle.cm_manager.proofs.calling.Keeping.{keeps_met, met_later}
 use Rattle.cm_lanes.proofs.lines.Performing.{follows_later}

@@ -6,9 +6,8 @@ use Rattle.cm_turn.specs.Passes.{LockView, seen_up_to}
 use Rattle.cm_world.specs.declared.reply.Entry.{Entry}
 use Rattle.cm_world.proofs.trees.Finding.{some_same}
 use Rattle.cm_manager.specs.Contract.{RealmPass}
-use Rattle.cm_lanes.specs.declared.lane.Lane.{Lane}
 use Rattle.cm_manager.specs.Kept.{IsOwnPass}
-use Rattle.cm_lanes.specs.Lane.{HasPass, HasSeen, Met, MetBoth, MetAll}
+use Rattle.cm_lanes.specs.Lane.{Lane, HasPass, HasSeen, Met, MetBoth, MetAll}
 use Rattle.cm_lanes.specs.Meeting.{MetWithin, HasSeenWithin, MeetsEach}
 use Rattle.cm_turn.proofs.Histories.{starts-refl, starts-trans, starts-antisym}
 

@@ -16,7 +16,6 @@ use Rattle.cm_manager.specs.Kept.{AreSixteen}
 use Rattle.cm_manager.proofs.calling.Sixteen.{sixteen_long}
 
 module _ {X : Type 0} where
-
   pub all_prefix : (P : X → Type 0) (xs ys : List X) → All P (xs ++ ys) → All P xs
   all_prefix P [] ys all = All-nil P
   all_prefix P (x ∷ xs) ys all = All-cons P x xs (All-head P x (xs ++ ys) all) (all_prefix P xs ys (All-tail P x (xs ++ ys) all))

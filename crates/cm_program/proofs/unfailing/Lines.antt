@@ -73,7 +73,6 @@ module _ (f : Frame) (c : ℕ) where
 -- ---- all lanes
 
 module _ (P : AnsweredLine → Type 0) where
-
   by_lanes : (xs : List AnsweredLine) → All IsFit (answered_lines xs) → ((c : ℕ) → c < 16 → All P (answers_of c xs)) → All P xs
   by_lanes [] few each = All-nil P
   by_lanes (a ∷ xs) few each =

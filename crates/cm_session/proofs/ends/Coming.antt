@@ -9,25 +9,22 @@ use Rattle.cm_manager.specs.Contract.{RealmPass}
 use Rattle.cm_manager.specs.Kept.{AreSixteen, IsOwnPass, KeepsEach}
 use Rattle.cm_manager.specs.Work.{Manifests}
 use Rattle.cm_turn.specs.Passes.{AreAll, LockView, new_passes}
-use Rattle.cm_session.specs.declared.pool.PoolParts.{PoolParts}
 use Rattle.cm_session.specs.declared.doorway.Opening.{Opening}
 use Rattle.cm_session.specs.declared.served.Cause.TheVariants as cause
 use Rattle.cm_session.specs.declared.served.Served.{Served}
-use Rattle.cm_session.specs.declared.workers.Worker.{Worker}
 use Rattle.cm_session.specs.Closing.{ClosesDoor, CountsLinks, links_from}
-use Rattle.cm_session.specs.Pool.{PoolWorked}
+use Rattle.cm_session.specs.Pool.{PoolWorked, Worker}
 use Rattle.cm_session.specs.Doorway.{DoorPass}
 use Rattle.cm_session.specs.Links.{LinkView}
-use Rattle.cm_session.specs.PoolParts.{AreWorkerParts, Links}
+use Rattle.cm_session.specs.PoolParts.{AreWorkerParts, Links, PoolParts}
 use Rattle.cm_session.specs.Serving.{IsUnserved, ServedOrNot}
-use Rattle.cm_session.proofs.ends.Ending.{places_of, visited_of}
+use Rattle.cm_session.proofs.ends.Ending.{Made, places_of, visited_of}
 use Rattle.cm_session.proofs.ends.Finishing.{all_at_door, counts_links, done_over, ends_back, fault_rose, few_links, gates_back, keeps_all, keeps_each, links_counted, place_kept, serves_all, sixteen_back, done_sound}
-use Rattle.cm_session.proofs.work.Making.{Made}
 use Rattle.cm_manager.proofs.calling.Sixteen.{sixteen_long}
 
 module _ {D L G : Type 0} (log_of : G → Option (List GateCall)) (faults_of : G → ℕ) (view : L → LinkView) (counts : D → DoorCounts) (place_of : D → DoorPlace) (manifests : Manifests) (realm : LockView) (sessions workers : ℕ) (passes : List RealmPass) (gates : List G) (door : D) where
   -- before the door is closed
-  pub closing_ready : (lock : LockView) (at_door : List DoorPass) (rooms : List (Links L)) (xs ys : List (Worker G L)) (parts : PoolParts G L) (room : ℕ) → AreSixteen realm passes → at_door ≡ new_passes lock.lock (record { counts = counts door; place = place_of door; sessions = sessions }) 16 → Made passes at_door gates rooms xs → PoolWorked log_of faults_of view manifests workers xs ys → AreWorkerParts ys parts → lock.passes ≡ 16 → sessions ≤ room → AreAll lock parts.at_door.items × CountsLinks parts.at_door.items parts.links.items room
+  pub closing_ready : (lock : LockView) (at_door : List DoorPass) (rooms : List (Links L)) (xs ys : List (Worker G L)) (parts : PoolParts G L) (room : ℕ) → AreSixteen realm passes → at_door ≡ new_passes lock.lock (record { counts = counts door; place = place_of door; sessions = sessions }) 16 → Made passes at_door gates rooms xs → PoolWorked log_of faults_of view manifests workers xs ys → AreWorkerParts ys parts → lock.passes ≡ 16 → sessions ≤ room → AreAll lock parts.works.at_door.items × CountsLinks parts.works.at_door.items parts.works.links.items room
   closing_ready lock at_door rooms xs ys parts room are new made did taken many fits =
       let o : Opening = record { counts = counts door; place = place_of door; sessions = sessions } in
       let sixteen = sixteen_long realm passes are in
@@ -70,7 +67,7 @@ module _ {D L G : Type 0} (log_of : G → Option (List GateCall)) (faults_of : G
       }
 
   -- where links were served
-  pub comes : (lock : LockView) (at_door : List DoorPass) (rooms : List (Links L)) (xs ys : List (Worker G L)) (parts : PoolParts G L) → AreSixteen realm passes → length gates ≡ 16 → 0 < workers → at_door ≡ new_passes lock.lock (record { counts = counts door; place = place_of door; sessions = sessions }) 16 → Made passes at_door gates rooms xs → PoolWorked log_of faults_of view manifests workers xs ys → AreWorkerParts ys parts → ClosesDoor parts.at_door.items (counts back.door) (place_of back.door) (length back.links) parts.lost back.cause → back.passes ≡ parts.passes.items → back.gates ≡ parts.gates.items → back.links ≡ links_from 0 parts.links.items → Comes
+  pub comes : (lock : LockView) (at_door : List DoorPass) (rooms : List (Links L)) (xs ys : List (Worker G L)) (parts : PoolParts G L) → AreSixteen realm passes → length gates ≡ 16 → 0 < workers → at_door ≡ new_passes lock.lock (record { counts = counts door; place = place_of door; sessions = sessions }) 16 → Made passes at_door gates rooms xs → PoolWorked log_of faults_of view manifests workers xs ys → AreWorkerParts ys parts → ClosesDoor parts.works.at_door.items (counts back.door) (place_of back.door) (length back.links) parts.lost back.cause → back.passes ≡ parts.passes.items → back.gates ≡ parts.gates.items → back.links ≡ links_from 0 parts.works.links.items → Comes
   comes lock at_door rooms xs ys parts are many some new made did taken closes passes_are gates_are links_are =
       let o : Opening = record { counts = counts door; place = place_of door; sessions = sessions } in
       let sixteen = sixteen_long realm passes are in

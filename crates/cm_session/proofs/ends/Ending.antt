@@ -7,25 +7,41 @@ use Rattle.std.proofs.lemmas.List.{length-append, length-map}
 use Rattle.std.proofs.lemmas.Option.{slice_get-get_or, slice_get_within, get_or_from_slice_get, same_Some}
 use Rattle.std.proofs.Math.ListN.{get_or-append}
 use Rattle.std.proofs.Math.Seq.{get_or-append_seam}
+use mathlib.Core.List.{map-map}
 use Rattle.cm_gate.specs.declared.asked.GateCall.{GateCall}
 use Rattle.cm_facts.proofs.Lists.{length_by_map, slice_get_some, take_over, All_slice_get}
 use Rattle.cm_manager.specs.Contract.{RealmPass}
 use Rattle.cm_manager.specs.Kept.{AreSixteen}
 use Rattle.cm_manager.specs.Gated.{gates_view}
 use Rattle.cm_manager.specs.Work.{Manifests}
+use Rattle.cm_manager.specs.Desks.{AreDesksOf}
 use Rattle.cm_turn.specs.Passes.{LockView, new_pass, new_passes}
-use Rattle.cm_session.specs.declared.pool.PoolParts.{PoolParts}
 use Rattle.cm_session.specs.declared.doorway.Accepted.{Accepted}
 use Rattle.cm_session.specs.declared.doorway.Opening.{Opening}
-use Rattle.cm_session.specs.declared.workers.Worker.{Worker}
-use Rattle.cm_session.specs.Pool.{PoolWorked, DidWork, HasServed, IsReadyWorker, WorkerWorked}
+use Rattle.cm_session.specs.declared.workers.DoorWork.{DoorWork}
+use Rattle.cm_session.specs.Pool.{DidWork, HasServed, IsReadyWorker, PoolWorked, Worker, WorkerWorked}
 use Rattle.cm_session.specs.Doorway.{DoorPass, IsDoorDone, sessions_of}
 use Rattle.cm_session.specs.Links.{LinkView}
-use Rattle.cm_session.specs.PoolParts.{AreWorkerParts, HasPasses, PoolPartsHaveRoom, HasRooms, Links}
+use Rattle.cm_session.specs.PoolParts.{AreWorkerParts, HasPasses, HasRooms, Links, PoolParts}
 use Rattle.cm_session.specs.Serving.{AreWell, EndsLost, StopsAtLoss, ServedLink}
-use Rattle.cm_session.proofs.work.Making.{Made}
 use Rattle.cm_session.proofs.work.Places.{all_places, any_place, at_map, field_at, item_at}
 use Rattle.cm_manager.proofs.calling.Sixteen.{sixteen_long}
+
+module _ {G L : Type 0} where
+  -- the workers that were made of these
+  pub record Made (passes : List RealmPass) (at_door : List DoorPass) (gates : List G) (links : List (Links L)) (pool : List (Worker G L)) : Type 0 where
+    pub passes_are : map (λ w. w.pass) pool ≡ map Some passes
+    pub at_door_are : map (λ w. w.work.at_door) pool ≡ map Some at_door
+    pub gates_are : map (λ w. w.gates) pool ≡ gates
+    pub links_are : map (λ w. w.work.links) pool ≡ links
+
+  pub made_of : (passes : List RealmPass) (at_door : List DoorPass) (gates : List G) (links : List (Links L)) (works : List (DoorWork L)) (pool : List (Worker G L)) → AreDesksOf passes gates works pool → map (λ w. w.at_door) works ≡ map Some at_door → map (λ w. w.links) works ≡ links → Made passes at_door gates links pool
+  made_of passes at_door gates links works pool is doors rooms = record {
+    passes_are = is.passes_are;
+    at_door_are = sym (map-map (λ (w : DoorWork L). w.at_door) (λ (w : Worker G L). w.work) pool) ∙ ap (map (λ w. w.at_door)) is.works_are ∙ doors;
+    gates_are = is.gates_are;
+    links_are = sym (map-map (λ (w : DoorWork L). w.links) (λ (w : Worker G L). w.work) pool) ∙ ap (map (λ w. w.links)) is.works_are ∙ rooms;
+  }
 
 -- ---- the passes of a new door
 
@@ -91,10 +107,10 @@ module _ {G L : Type 0} (log_of : G → Option (List GateCall)) (faults_of : G �
     pub p_is : slice_get passes k ≡ Some p
     pub q_is : slice_get parts.passes.items k ≡ Some q
     pub d_is : slice_get at_door k ≡ Some d
-    pub e_is : slice_get parts.at_door.items k ≡ Some e
+    pub e_is : slice_get parts.works.at_door.items k ≡ Some e
     pub g_is : slice_get gates k ≡ Some g
     pub h_is : slice_get parts.gates.items k ≡ Some h
-    pub r_is : slice_get parts.links.items k ≡ Some r
+    pub r_is : slice_get parts.works.links.items k ≡ Some r
     pub served : HasServed view manifests vs p q (gates_view log_of faults_of g) (gates_view log_of faults_of h) d e r.items
     pub idle : workers ≤ d.caller → vs ≡ []
     pub stops : StopsAtLoss vs
@@ -105,9 +121,9 @@ module _ {G L : Type 0} (log_of : G → Option (List GateCall)) (faults_of : G �
   pub record Places (passes : List RealmPass) (at_door : List DoorPass) (gates : List G) (parts : PoolParts G L) (visits : List (List ServedLink)) : Type 0 where
     pub count : length visits ≡ length passes
     pub passes_long : length parts.passes.items ≡ length passes
-    pub doors_long : length parts.at_door.items ≡ length passes
+    pub doors_long : length parts.works.at_door.items ≡ length passes
     pub gates_long : length parts.gates.items ≡ length passes
-    pub links_long : length parts.links.items ≡ length passes
+    pub links_long : length parts.works.links.items ≡ length passes
     pub each : (k : ℕ) (vs : List ServedLink) → slice_get visits k ≡ Some vs → PlaceAt passes at_door gates parts k vs
     pub lost : parts.lost ≡ true → Any EndsLost visits
 
@@ -116,9 +132,9 @@ module _ {G L : Type 0} (log_of : G → Option (List GateCall)) (faults_of : G �
   places_of passes at_door gates links xs ys parts visits made long visited are = record {
     count = visited.count ∙ as_many;
     passes_long = length_by_map Some (λ (w : Worker G L). w.pass) parts.passes.items ys are.passes ∙ long ∙ as_many;
-    doors_long = length_by_map Some (λ (w : Worker G L). w.at_door) parts.at_door.items ys are.at_door ∙ long ∙ as_many;
+    doors_long = length_by_map Some (λ (w : Worker G L). w.work.at_door) parts.works.at_door.items ys are.at_door ∙ long ∙ as_many;
     gates_long = ap (λ (l : List G). length l) are.gates ∙ length-map ys (λ (w : Worker G L). w.gates) ∙ long ∙ as_many;
-    links_long = ap (λ (l : List (Links L)). length l) are.links ∙ length-map ys (λ (w : Worker G L). w.links) ∙ long ∙ as_many;
+    links_long = ap (λ (l : List (Links L)). length l) are.links ∙ length-map ys (λ (w : Worker G L). w.work.links) ∙ long ∙ as_many;
     each = place;
     lost = λ yes. lost_at (are.lost yes);
   } where
@@ -138,14 +154,14 @@ module _ {G L : Type 0} (log_of : G → Option (List GateCall)) (faults_of : G �
           e = worked.e;
           g = x.0.gates;
           h = y.0.gates;
-          r = y.0.links;
+          r = y.0.work.links;
           p_is = item_at (λ (w : Worker G L). w.pass) xs passes k x.0 worked.p made.passes_are x.1 worked.was;
           q_is = item_at (λ (w : Worker G L). w.pass) ys parts.passes.items k y.0 worked.q (sym are.passes) y.1 worked.now;
-          d_is = item_at (λ (w : Worker G L). w.at_door) xs at_door k x.0 worked.d made.at_door_are x.1 worked.was_at_door;
-          e_is = item_at (λ (w : Worker G L). w.at_door) ys parts.at_door.items k y.0 worked.e (sym are.at_door) y.1 worked.now_at_door;
+          d_is = item_at (λ (w : Worker G L). w.work.at_door) xs at_door k x.0 worked.d made.at_door_are x.1 worked.was_at_door;
+          e_is = item_at (λ (w : Worker G L). w.work.at_door) ys parts.works.at_door.items k y.0 worked.e (sym are.at_door) y.1 worked.now_at_door;
           g_is = at_map (λ (w : Worker G L). w.gates) xs gates k x.0 made.gates_are x.1;
           h_is = at_map (λ (w : Worker G L). w.gates) ys parts.gates.items k y.0 (sym are.gates) y.1;
-          r_is = at_map (λ (w : Worker G L). w.links) ys parts.links.items k y.0 (sym are.links) y.1;
+          r_is = at_map (λ (w : Worker G L). w.work.links) ys parts.works.links.items k y.0 (sym are.links) y.1;
           served = worked.served;
           idle = worked.idle;
           stops = either_way y.0.lost worked.well worked.lost;
@@ -170,11 +186,11 @@ module _ {G L : Type 0} where
     each k x there =
         let within : k < length xs = slice_get_within xs k x there in
         let long : length xs ≡ length passes = length_by_map (λ (w : Worker G L). w.pass) Some xs passes made.passes_are in
-        let doors_long : length xs ≡ length at_door = length_by_map (λ (w : Worker G L). w.at_door) Some xs at_door made.at_door_are in
+        let doors_long : length xs ≡ length at_door = length_by_map (λ (w : Worker G L). w.work.at_door) Some xs at_door made.at_door_are in
         let p = slice_get_some passes k (grind (arith, within, long)) in
         let d = slice_get_some at_door k (grind (arith, within, doors_long)) in
         let d_new : d.0 ≡ new_pass door.lock o k = new_at door o 16 k d.0 (subst (λ (l : List DoorPass). slice_get l k ≡ Some d.0) new d.1) in
-        let room_at = at_map (λ (w : Worker G L). w.links) xs links k x made.links_are there in
+        let room_at = at_map (λ (w : Worker G L). w.work.links) xs links k x made.links_are there in
         let caller : d.0.caller ≡ k = ap (λ (p : DoorPass). p.caller) d_new in
         let sessions : sessions_of d.0 ≡ o.sessions = ap (λ (p : DoorPass). sessions_of p) d_new in
         record {
@@ -182,11 +198,11 @@ module _ {G L : Type 0} where
           there = field_at (λ (w : Worker G L). w.pass) xs passes k x p.0 made.passes_are there p.1;
           of_realm = All_slice_get (λ (p : RealmPass). p.lock ≡ realm.lock) passes k p.0 are.lock p.1;
           at_door = d.0;
-          there_too = field_at (λ (w : Worker G L). w.at_door) xs at_door k x d.0 made.at_door_are there d.1;
+          there_too = field_at (λ (w : Worker G L). w.work.at_door) xs at_door k x d.0 made.at_door_are there d.1;
           of_door = ap (λ (p : DoorPass). p.lock) d_new;
           new = ap (λ (p : DoorPass). p.mine) d_new;
-          none = All_slice_get (λ (r : Links L). r.items ≡ []) links k x.links rooms.none room_at;
-          room = λ first. subst (λ (n : ℕ). n ≤ Rattle.std.specs.Prelude.vec_capacity x.links) (sym sessions) (rooms.room k x.links (subst (λ (n : ℕ). n < workers) caller first) room_at);
+          none = All_slice_get (λ (r : Links L). r.items ≡ []) links k x.work.links rooms.none room_at;
+          room = λ first. subst (λ (n : ℕ). n ≤ Rattle.std.specs.Prelude.vec_capacity x.work.links) (sym sessions) (rooms.room k x.work.links (subst (λ (n : ℕ). n < workers) caller first) room_at);
           well = All_slice_get (λ (w : Worker G L). w.lost ≡ false) xs k x well there;
         }
 
@@ -195,12 +211,11 @@ module _ {G L : Type 0} (log_of : G → Option (List GateCall)) (faults_of : G �
   pub have_passes : (xs ys : List (Worker G L)) → PoolWorked log_of faults_of view manifests workers xs ys → All HasPasses ys
   have_passes xs ys did k d lt =
       let w = did.each k d (grind (arith, did.long, lt)) in
-      record { pass = w.worked.q; there = w.worked.now; at_door = w.worked.e; there_too = w.worked.now_at_door }
+      record { pass = w.worked.q; there = w.worked.now; door = record { at_door = w.worked.e; there = w.worked.now_at_door } }
 
-  -- they are as many as there is room for
-  pub room_left : (realm : LockView) (passes : List RealmPass) (xs ys : List (Worker G L)) (parts : PoolParts G L) → AreSixteen realm passes → map (λ (w : Worker G L). w.pass) xs ≡ map Some passes → PoolWorked log_of faults_of view manifests workers xs ys → PoolPartsHaveRoom 16 parts → PoolPartsHaveRoom (length ys) parts
-  room_left realm passes xs ys parts are made did room =
-      subst (λ (n : ℕ). PoolPartsHaveRoom n parts) (sym (did.long ∙ length_by_map (λ (w : Worker G L). w.pass) Some xs passes made ∙ sixteen_long realm passes are)) room
+  -- they are sixteen
+  pub sixteen_left : (realm : LockView) (passes : List RealmPass) (xs ys : List (Worker G L)) → AreSixteen realm passes → map (λ (w : Worker G L). w.pass) xs ≡ map Some passes → PoolWorked log_of faults_of view manifests workers xs ys → length ys ≡ 16
+  sixteen_left realm passes xs ys are made did = did.long ∙ length_by_map (λ (w : Worker G L). w.pass) Some xs passes made ∙ sixteen_long realm passes are
 
   -- the workers of a slice that took the place of a whole vector
   pub pool_worked : (xs s ys : List (Worker G L)) (n : ℕ) → s ≡ xs → n ≡ length xs → length ys ≡ length s → ((k : ℕ) (d : Worker G L) → k < length s → DidWork log_of faults_of view manifests workers (get_or s k d) (get_or ys k d)) → PoolWorked log_of faults_of view manifests workers xs (take n (ys ++ drop (length ys) xs))

@@ -17,7 +17,6 @@ use Rattle.cm_manager.specs.Gated.{gates_view}
 use Rattle.cm_manager.specs.Kept.{AreSixteen, IsOwnPass, KeepsPass, KeepsEach}
 use Rattle.cm_manager.specs.Work.{Manifests}
 use Rattle.cm_turn.specs.Passes.{AreAll, LockView, new_pass, new_passes}
-use Rattle.cm_session.specs.declared.pool.PoolParts.{PoolParts}
 use Rattle.cm_session.specs.declared.doorway.Opening.{Opening}
 use Rattle.cm_session.specs.declared.served.Back.{Back}
 use Rattle.cm_session.specs.declared.served.Cause.{Cause}
@@ -26,7 +25,7 @@ use Rattle.cm_session.specs.declared.served.Served.{Served}
 use Rattle.cm_session.specs.Closing.{ClosesDoor, CountsLinks, backs_of, cause_of, links_from}
 use Rattle.cm_session.specs.Doorway.{DoorPass, IsDoorDone, failures_of, links_of, sessions_in, sessions_of}
 use Rattle.cm_session.specs.Links.{LinkView}
-use Rattle.cm_session.specs.PoolParts.{Links}
+use Rattle.cm_session.specs.PoolParts.{Links, PoolParts}
 use Rattle.cm_session.specs.Serving.{AreWell, IsOfLink, ServesVisits, ServesAll, StopsAtLoss, ServedLink, back_view, worker_by_worker}
 use Rattle.cm_session.specs.Session.{KeepsOrNot}
 use Rattle.cm_session.proofs.links.Accepts.{over_later}
@@ -81,9 +80,9 @@ module _ {G L : Type 0} (log_of : G → Option (List GateCall)) (faults_of : G �
     frame : e.frame ≡ Some o
     caller : e.caller ≡ k
 
-  door_at : (k : ℕ) (e : DoorPass) → slice_get parts.at_door.items k ≡ Some e → DoorAt k e
+  door_at : (k : ℕ) (e : DoorPass) → slice_get parts.works.at_door.items k ≡ Some e → DoorAt k e
   door_at k e there =
-      let within : k < length parts.at_door.items = slice_get_within parts.at_door.items k e there in
+      let within : k < length parts.works.at_door.items = slice_get_within parts.works.at_door.items k e there in
       let v = slice_get_some visits k (grind (arith, within, pl.doors_long, pl.count)) in
       let place = pl.each k v.0 v.1 in
       let is : place.e ≡ e = same_Some place.e e (sym place.e_is ∙ there) in
@@ -100,23 +99,23 @@ module _ {G L : Type 0} (log_of : G → Option (List GateCall)) (faults_of : G �
       }
 
   -- the passes at the door are all of its passes
-  pub all_at_door : door.passes ≡ 16 → AreAll door parts.at_door.items
+  pub all_at_door : door.passes ≡ 16 → AreAll door parts.works.at_door.items
   all_at_door many = (
-    all_places (λ (p : DoorPass). p.lock ≡ door.lock) parts.at_door.items (λ k e there. (door_at k e there).lock),
+    all_places (λ (p : DoorPass). p.lock ≡ door.lock) parts.works.at_door.items (λ k e there. (door_at k e there).lock),
     pl.doors_long ∙ sixteen ∙ sym many,
-    (λ c lt. (let e = slice_get_some parts.at_door.items c (grind (arith, lt, many, pl.doors_long, sixteen)) in (c, e.0, e.1, (door_at c e.0 e.1).caller))),
+    (λ c lt. (let e = slice_get_some parts.works.at_door.items c (grind (arith, lt, many, pl.doors_long, sixteen)) in (c, e.0, e.1, (door_at c e.0 e.1).caller))),
   )
 
   -- each worker's links are as many as its entries with a link
-  pub counts_links : (room : ℕ) → o.sessions ≤ room → CountsLinks parts.at_door.items parts.links.items room
+  pub counts_links : (room : ℕ) → o.sessions ≤ room → CountsLinks parts.works.at_door.items parts.works.links.items room
   counts_links room fits = record {
     count = pl.doors_long ∙ sixteen;
     callers = λ k e there. (door_at k e there).caller;
     long = pl.links_long ∙ sixteen;
     each = each;
-    room = all_places (λ (p : DoorPass). sessions_of p ≤ room) parts.at_door.items (λ k e there. subst (λ (n : ℕ). n ≤ room) (sym (ap sessions_in (door_at k e there).frame)) fits);
+    room = all_places (λ (p : DoorPass). sessions_of p ≤ room) parts.works.at_door.items (λ k e there. subst (λ (n : ℕ). n ≤ room) (sym (ap sessions_in (door_at k e there).frame)) fits);
   } where
-    each : (k : ℕ) (e : DoorPass) (r : Links L) → slice_get parts.at_door.items k ≡ Some e → slice_get parts.links.items k ≡ Some r → links_of e.mine ≡ length r.items
+    each : (k : ℕ) (e : DoorPass) (r : Links L) → slice_get parts.works.at_door.items k ≡ Some e → slice_get parts.works.links.items k ≡ Some r → links_of e.mine ≡ length r.items
     each k e r there r_there =
         let at = door_at k e there in
         let r_is : at.place.r ≡ r = same_Some at.place.r r (sym at.place.r_is ∙ r_there) in
@@ -125,12 +124,12 @@ module _ {G L : Type 0} (log_of : G → Option (List GateCall)) (faults_of : G �
 
   -- ---- what the closed door says
 
-  module _ (first : DoorCounts) (opened : o.counts ≡ first) (some_worker : 0 < workers) (now : DoorCounts) (place_now : DoorPlace) (links : ℕ) (why : Cause) (is : ClosesDoor parts.at_door.items now place_now links parts.lost why) where
-    zero_at : (e : DoorPass) × (slice_get parts.at_door.items 0 ≡ Some e)
-    zero_at = slice_get_some parts.at_door.items 0 (grind (arith, pl.doors_long, sixteen))
+  module _ (first : DoorCounts) (opened : o.counts ≡ first) (some_worker : 0 < workers) (now : DoorCounts) (place_now : DoorPlace) (links : ℕ) (why : Cause) (is : ClosesDoor parts.works.at_door.items now place_now links parts.lost why) where
+    zero_at : (e : DoorPass) × (slice_get parts.works.at_door.items 0 ≡ Some e)
+    zero_at = slice_get_some parts.works.at_door.items 0 (grind (arith, pl.doors_long, sixteen))
 
     opening_is : is.opening ≡ o
-    opening_is = same_Some is.opening o (sym (All_slice_get (λ (p : DoorPass). p.frame ≡ Some is.opening) parts.at_door.items 0 zero_at.0 is.opened zero_at.1) ∙ (door_at 0 zero_at.0 zero_at.1).frame)
+    opening_is = same_Some is.opening o (sym (All_slice_get (λ (p : DoorPass). p.frame ≡ Some is.opening) parts.works.at_door.items 0 zero_at.0 is.opened zero_at.1) ∙ (door_at 0 zero_at.0 zero_at.1).frame)
 
     pub counts_first : is.opening.counts ≡ first
     counts_first = ap (λ (x : Opening). x.counts) opening_is ∙ opened
@@ -155,7 +154,7 @@ module _ {G L : Type 0} (log_of : G → Option (List GateCall)) (faults_of : G �
         let caller : at.place.d.caller ≡ 0 = ap (λ (p : DoorPass). p.caller) at.first in
         let over : IsDoorDone (sessions_of at.place.e) at.place.e.seen = at.place.over well (subst (λ (n : ℕ). n < workers) (sym caller) some_worker) in
         let sessions : sessions_of at.place.e ≡ o.sessions = ap (λ (p : DoorPass). sessions_of p) at.is ∙ ap sessions_in at.frame in
-        let seen = All_slice_get (λ (p : DoorPass). Rattle.cm_turn.specs.History.StartsWith is.entries p.seen) parts.at_door.items 0 zero_at.0 is.seen zero_at.1 in
+        let seen = All_slice_get (λ (p : DoorPass). Rattle.cm_turn.specs.History.StartsWith is.entries p.seen) parts.works.at_door.items 0 zero_at.0 is.seen zero_at.1 in
         let found : IsDoorDone o.sessions zero_at.0.seen = subst (λ (p : DoorPass). IsDoorDone o.sessions p.seen) at.is (subst (λ (n : ℕ). IsDoorDone n at.place.e.seen) sessions over) in
         subst (λ l. IsDoorDone o.sessions l) (sym seen.1) (over_later o.sessions zero_at.0.seen seen.0 found)
 
@@ -174,7 +173,7 @@ module _ {G L : Type 0} (log_of : G → Option (List GateCall)) (faults_of : G �
 
     -- ---- all that comes back
 
-    module _ {D : Type 0} (back : Served D L G) (passes_are : back.passes ≡ parts.passes.items) (gates_are : back.gates ≡ parts.gates.items) (links_are : back.links ≡ links_from 0 parts.links.items) (why_is : back.cause ≡ why) where
+    module _ {D : Type 0} (back : Served D L G) (passes_are : back.passes ≡ parts.passes.items) (gates_are : back.gates ≡ parts.gates.items) (links_are : back.links ≡ links_from 0 parts.works.links.items) (why_is : back.cause ≡ why) where
       kept_at : (k : ℕ) (vs : List ServedLink) (p q : RealmPass) (g h : G) → slice_get visits k ≡ Some vs → slice_get passes k ≡ Some p → slice_get back.passes k ≡ Some q → slice_get gates k ≡ Some g → slice_get back.gates k ≡ Some h → ServesVisits manifests vs p q (gates_view log_of faults_of g) (gates_view log_of faults_of h)
       kept_at k vs p q g h v_there p_there q_there g_there h_there =
           let place = pl.each k vs v_there in
@@ -187,14 +186,14 @@ module _ {G L : Type 0} (log_of : G → Option (List GateCall)) (faults_of : G �
           (subst (λ (x : RealmPass). ServesVisits manifests vs p x (gates_view log_of faults_of place.g) (gates_view log_of faults_of place.h)) q_same
           (subst (λ (x : RealmPass). ServesVisits manifests vs x place.q (gates_view log_of faults_of place.g) (gates_view log_of faults_of place.h)) p_same place.served.serves)))
 
-      now_links : (k : ℕ) (r : Links L) (vs : List ServedLink) → slice_get parts.links.items k ≡ Some r → slice_get visits k ≡ Some vs → map view r.items ≡ map (λ v. v.now) vs
+      now_links : (k : ℕ) (r : Links L) (vs : List ServedLink) → slice_get parts.works.links.items k ≡ Some r → slice_get visits k ≡ Some vs → map view r.items ≡ map (λ v. v.now) vs
       now_links k r vs r_there v_there = (let place = pl.each k vs v_there in subst (λ (x : Links L). map view x.items ≡ map (λ v. v.now) vs) (same_Some place.r r (sym place.r_is ∙ r_there)) place.served.links_are)
 
       pub serves_all : ServesAll log_of faults_of view manifests workers passes gates back
       serves_all = record {
         visits = visits;
         count = pl.count ∙ sixteen;
-        links = ap (map (back_view view)) links_are ∙ merged view 0 parts.links.items visits (pl.links_long ∙ sym pl.count) now_links;
+        links = ap (map (back_view view)) links_are ∙ merged view 0 parts.works.links.items visits (pl.links_long ∙ sym pl.count) now_links;
         came = all_places (λ (vs : List ServedLink). All (λ v. IsOfLink view v.was) vs) visits (λ k vs there. (pl.each k vs there).served.came);
         each = kept_at;
         idle = λ k vs past there. (pl.each k vs there).idle (idle_at k vs past there);

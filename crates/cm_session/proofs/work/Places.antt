@@ -1,7 +1,6 @@
 -- What stands at the places of lists.
-use Rattle.std.proofs.Common.{◌≡◌, ℕ, suc, ◌<◌, List, [], ◌∷◌, ◌++◌, All, Any, map, length, get_or, Option, Some, refl, sym, ap, ◌∙◌, arith}
+use Rattle.std.proofs.Common.{◌≡◌, ℕ, suc, ◌<◌, List, [], ◌∷◌, All, Any, map, length, get_or, Option, Some, refl, sym, ap, ◌∙◌, arith}
 use Rattle.std.specs.List.{slice_get}
-use Rattle.std.proofs.lemmas.List.{length-append, get_or_append_left}
 use Rattle.std.proofs.lemmas.Option.{get_or_from_slice_get, slice_get-get_or, slice_get-map, slice_get_within, same_Some}
 use Rattle.std.specs.Prelude.{option_map}
 use Rattle.cm_facts.proofs.Lists.{length_by_map, slice_get_some}
@@ -11,11 +10,6 @@ all_places P xs each k d lt = each k (get_or xs k d) (slice_get-get_or xs k d lt
 
 pub any_place : {A : Type 0} (P : A → Type 0) (xs : List A) (k : ℕ) (x : A) → slice_get xs k ≡ Some x → P x → Any P xs
 any_place P xs k x there is = (k, x, slice_get_within xs k x there, get_or_from_slice_get xs k x x there, is)
-
-pub any_append : {A : Type 0} (P : A → Type 0) (xs ys : List A) → Any P xs → Any P (xs ++ ys)
-any_append P xs ys any =
-    let within : any.0 < length (xs ++ ys) = grind (arith, any.2, length-append xs ys) in
-    (any.0, any.1, within, get_or_append_left xs ys any.1 any.0 any.2 ∙ any.3, any.4)
 
 -- a list that is made of another, and what stands there
 pub at_map : {A B : Type 0} (f : A → B) (xs : List A) (ys : List B) (k : ℕ) (x : A) → map f xs ≡ ys → slice_get xs k ≡ Some x → slice_get ys k ≡ Some (f x)

@@ -8,8 +8,7 @@ use Rattle.cm_manager.specs.Gated.{gates_view}
 use Rattle.cm_manager.specs.Work.{Manifests}
 use Rattle.cm_turn.specs.Passes.{LockView}
 use Rattle.cm_session.specs.declared.ended.Ended.TheVariants as ended
-use Rattle.cm_session.specs.declared.workers.Worker.{Worker}
-use Rattle.cm_session.specs.Pool.{DidWork, IsReadyWorker, ServesLinks}
+use Rattle.cm_session.specs.Pool.{DidWork, IsReadyWorker, ServesLinks, Worker}
 use Rattle.cm_session.specs.Doorway.{DoorPass, links_of, sessions_of}
 use Rattle.cm_session.specs.Links.{LinkView}
 use Rattle.cm_session.specs.Serving.{IsOfLink, ServesVisits, ServedLink, none_came}
@@ -18,25 +17,25 @@ module _ {G L : Type 0} (realm door : LockView) (workers : ℕ) (worker : Worker
   pub ready_pass : (p : RealmPass) → worker.pass ≡ Some p → p.lock ≡ realm.lock
   ready_pass p there = ap (λ (x : RealmPass). x.lock) (same_Some p is.pass (sym there ∙ is.there)) ∙ is.of_realm
 
-  pub ready_door : (d : DoorPass) → worker.at_door ≡ Some d → d ≡ is.at_door
+  pub ready_door : (d : DoorPass) → worker.work.at_door ≡ Some d → d ≡ is.at_door
   ready_door d there = same_Some d is.at_door (sym there ∙ is.there_too)
 
 -- what a worker that is ready hands to the loop
-module _ {G L : Type 0} (realm door : LockView) (workers : ℕ) (worker : Worker G L) (is : IsReadyWorker realm door workers worker) (d : DoorPass) (there : worker.at_door ≡ Some d) where
+module _ {G L : Type 0} (realm door : LockView) (workers : ℕ) (worker : Worker G L) (is : IsReadyWorker realm door workers worker) (d : DoorPass) (there : worker.work.at_door ≡ Some d) where
   pub ready_lock : d.lock ≡ door.lock
   ready_lock = ap (λ (x : DoorPass). x.lock) (ready_door realm door workers worker is d there) ∙ is.of_door
 
   pub ready_new : d.mine ≡ []
   ready_new = ap (λ (x : DoorPass). x.mine) (ready_door realm door workers worker is d there) ∙ is.new
 
-  pub ready_room : d.caller < workers → sessions_of d ≤ vec_capacity worker.links
+  pub ready_room : d.caller < workers → sessions_of d ≤ vec_capacity worker.work.links
   ready_room first =
       let same = ready_door realm door workers worker is d there in
-      subst (λ (x : DoorPass). sessions_of x ≤ vec_capacity worker.links) (sym same) (is.room (subst (λ (x : DoorPass). x.caller < workers) same first))
+      subst (λ (x : DoorPass). sessions_of x ≤ vec_capacity worker.work.links) (sym same) (is.room (subst (λ (x : DoorPass). x.caller < workers) same first))
 
 module _ {G L : Type 0} (log_of : G → Option (List GateCall)) (faults_of : G → ℕ) (view : L → LinkView) (manifests : Manifests) (realm door : LockView) (workers : ℕ) (old new : Worker G L) (is : IsReadyWorker realm door workers old) where
   -- a worker that isn't one of the first so many
-  pub worked_idle : (d : DoorPass) → old.at_door ≡ Some d → workers ≤ d.caller → new.at_door ≡ Some d → new.pass ≡ old.pass → new.gates ≡ old.gates → new.links ≡ old.links → new.lost ≡ old.lost → DidWork log_of faults_of view manifests workers old new
+  pub worked_idle : (d : DoorPass) → old.work.at_door ≡ Some d → workers ≤ d.caller → new.work.at_door ≡ Some d → new.pass ≡ old.pass → new.gates ≡ old.gates → new.work.links ≡ old.work.links → new.lost ≡ old.lost → DidWork log_of faults_of view manifests workers old new
   worked_idle d there past back pass gates links lost = record {
     visits = [];
     worked = record {
@@ -63,7 +62,7 @@ module _ {G L : Type 0} (log_of : G → Option (List GateCall)) (faults_of : G �
   }
 
   -- a worker that served links
-  pub worked_served : (p q : RealmPass) (d e : DoorPass) (lost : Bool) → old.pass ≡ Some p → old.at_door ≡ Some d → d.caller < workers → new.pass ≡ Some q → new.at_door ≡ Some e → new.lost ≡ lost → ServesLinks view manifests p q (gates_view log_of faults_of old.gates) (gates_view log_of faults_of new.gates) d e new.links.items lost → DidWork log_of faults_of view manifests workers old new
+  pub worked_served : (p q : RealmPass) (d e : DoorPass) (lost : Bool) → old.pass ≡ Some p → old.work.at_door ≡ Some d → d.caller < workers → new.pass ≡ Some q → new.work.at_door ≡ Some e → new.lost ≡ lost → ServesLinks view manifests p q (gates_view log_of faults_of old.gates) (gates_view log_of faults_of new.gates) d e new.work.links.items lost → DidWork log_of faults_of view manifests workers old new
   worked_served p q d e lost was was_at_door first now now_at_door lost_is served = record {
     visits = served.visits;
     worked = record {

@@ -1,6 +1,6 @@
 use Rattle.std.proofs.Common.{List, sym, subst}
 use Rattle.cm_facts.proofs.Lists.{take_over}
-use Rattle.cm_lanes.specs.declared.lane.Lane.{Lane}
+use Rattle.cm_lanes.specs.Lane.{Lane}
 use Rattle.cm_lanes.specs.Phases.{LanesRan, AreLanes}
 use Rattle.cm_lanes.proofs.phase.run_all.Goals as goal
 

@@ -7,10 +7,10 @@ use Rattle.cm_lanes.proofs.Captures.{four_sync}
 use Rattle.cm_lanes.proofs.Crossing.{said_send}
 use Rattle.cm_lanes.proofs.phase.work_all.Goals as goal
 use Rattle.cm_manager.proofs.Crossing.{manager_sync}
-use Rattle.cm_turn.proofs.pass.Pass.TheSendSync as pass
+use Rattle.cm_manager.proofs.desks.Desk.TheSendSync as desk
 
 pub for_each_mut-requires-send-T : goal.for_each_mut-requires-send-T
-for_each_mut-requires-send-T g c = search (sendable, crosses, pass.the_send, said_send) depth 40
+for_each_mut-requires-send-T g c = search (sendable, crosses, desk.the_send, said_send) depth 40
 
 pub for_each_mut-requires-sync-F : goal.for_each_mut-requires-sync-F
 for_each_mut-requires-sync-F g c κs fits =
