@@ -1,5 +1,5 @@
 -- Every legal history keeps all laws.
-use Rattle.cm_order.proofs.trees.Ending.{no_dead_end}
+use Rattle.cm_trees.proofs.trees.Ending.{no_dead_end}
 use Rattle.cm_laws.specs.HistoriesInside.{HistoriesKeepLaws}
 use Rattle.cm_laws.proofs.lasting.Stable.{routes_are_stable}
 use Rattle.cm_laws.proofs.actions.Outcomes.{outcomes_are_one}

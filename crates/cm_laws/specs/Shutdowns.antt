@@ -10,7 +10,7 @@ use Rattle.cm_world.specs.declared.reply.Entry.{Entry}
 use Rattle.cm_world.specs.Rows.{row_of, is_live, has_closing, has_doomed, is_closing, is_subtree_shut}
 use Rattle.cm_world.specs.World.{World, start}
 use Rattle.cm_world.specs.Legal.{replay}
-use Rattle.cm_order.specs.Laws.{CanStop}
+use Rattle.cm_trees.specs.Laws.{CanStop}
 
 -- a row that was once there is marked to be shut down, or has left the tree since
 pub record IsLeaving (w : World) (i : ℕ) : Type 0 where

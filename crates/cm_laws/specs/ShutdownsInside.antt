@@ -17,7 +17,7 @@ use Rattle.cm_world.specs.Sound.{IsSound}
 use Rattle.cm_world.specs.Legal.{Legal, replay}
 use Rattle.cm_world.specs.End.{fits_kind, HasValid}
 use Rattle.cm_world.specs.Step.{MayEnd, may_close, may_purge}
-use Rattle.cm_order.specs.Laws.{CanStop}
+use Rattle.cm_trees.specs.Laws.{CanStop}
 use Rattle.cm_laws.specs.Story.{Story, world_of, IsLegal, AddsEntry}
 use Rattle.cm_laws.specs.Shutdowns.{IsLeaving, IsMarked}
 

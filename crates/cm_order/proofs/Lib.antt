@@ -1,4 +1,3 @@
-pub mod trees
 pub mod levels
 pub mod searches
 pub mod names

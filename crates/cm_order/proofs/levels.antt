@@ -1,6 +1,5 @@
 pub mod Leading
 pub mod Leaving
-pub mod Kids
 pub mod Gathering
 pub mod Glancing
 pub mod Lists

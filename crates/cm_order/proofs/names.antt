@@ -1,6 +1,3 @@
 -- The one map between the two realm graphs: a level's rows, and the nodes of cm_deps by their names.
 pub mod Edges
-pub mod Graphs
-pub mod Naming
 pub mod Sources
-pub mod Listing

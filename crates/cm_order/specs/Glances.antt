@@ -25,7 +25,7 @@ use Rattle.cm_order.specs.declared.dependents.Dependents.{Dependents}
 use Rattle.cm_order.specs.declared.search.SearchGoal.TheVariants.{Idle}
 use Rattle.cm_order.specs.declared.search.VisitResult.{VisitResult}
 use Rattle.cm_order.specs.declared.search.VisitResult.TheVariants.{Here, Below}
-use Rattle.cm_order.specs.Kids.{IsKid}
+use Rattle.cm_trees.specs.Kids.{IsKid}
 use Rattle.cm_order.specs.Search.{IsHere, IsFound}
 
 -- ---- sets and lists of rows

@@ -14,8 +14,8 @@ use Rattle.cm_world.specs.Rows.{row_of, decl_of}
 use Rattle.cm_world.specs.Stopping.{is_wholly_shut}
 use Rattle.cm_order.specs.declared.members.Member.{Member}
 use Rattle.cm_order.specs.declared.level.Level.{Level}
-use Rattle.cm_order.specs.Kids.{IsKid}
-use Rattle.cm_order.specs.Names.{node_in, dynamic_children}
+use Rattle.cm_trees.specs.Kids.{IsKid}
+use Rattle.cm_trees.specs.Names.{node_in, dynamic_children}
 
 -- P holds of all items
 abbrev pub EachOfList : {A : Type 0} → (A → Type 0) → List A → Type 0

@@ -1,11 +1,7 @@
 pub mod Spots
-pub mod Kids
-pub mod Names
 pub mod Levels
 pub mod Search
 pub mod Glances
 pub mod Plans
 pub mod Picking
 pub mod Ways
-pub mod Laws
-pub mod LawsInside

@@ -10,7 +10,7 @@ use Rattle.cm_world.specs.RowsInside.{is_behind}
 use Rattle.cm_world.specs.Stopping.{IsFree}
 use Rattle.cm_order.specs.declared.stand.Stand.{Stand}
 use Rattle.cm_order.specs.declared.plan.DescentPlan.{DescentPlan}
-use Rattle.cm_order.specs.Kids.{IsKid}
+use Rattle.cm_trees.specs.Kids.{IsKid}
 use Rattle.cm_order.specs.Levels.{EachOfList}
 use Rattle.cm_order.specs.declared.dependents.Dependents.{Dependents}
 use Rattle.cm_order.specs.Glances.{KnowsDependents, AreKidsShut}

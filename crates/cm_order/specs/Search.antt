@@ -11,7 +11,7 @@ use Rattle.cm_order.specs.declared.search.SearchGoal.{SearchGoal}
 use Rattle.cm_order.specs.declared.search.SearchGoal.TheVariants.{Idle, Pending}
 use Rattle.cm_order.specs.declared.search.VisitResult.{VisitResult}
 use Rattle.cm_order.specs.declared.search.VisitResult.TheVariants.{Here, Below}
-use Rattle.cm_order.specs.Kids.{IsKid}
+use Rattle.cm_trees.specs.Kids.{IsKid}
 
 -- ---- one level
 

@@ -5,7 +5,7 @@ use Rattle.std.specs.Option.{option_map_or}
 use Rattle.cm_world.specs.declared.row.Row.{Row}
 use Rattle.cm_world.specs.Rows.{row_of}
 use Rattle.cm_world.specs.Stopping.{line_up_to, AllFree}
-use Rattle.cm_order.specs.Kids.{IsKid}
+use Rattle.cm_trees.specs.Kids.{IsKid}
 
 -- whether a row lives, isn't shut and has no pending action
 abbrev pub is_idle : List Row → ℕ → Bool

@@ -4,7 +4,7 @@ ghost use Rattle.std.specs.Prelude.{◌≡◌, Some, IsTrue};
 ghost use Rattle.std.specs.List.{list_any};
 ghost use Rattle.cm_world.specs.Level.{is_from_row, LevelStrong};
 ghost use Rattle.cm_world.specs.Sound.{IsSound};
-ghost use Rattle.cm_order.specs.Kids.{IsKid};
+ghost use Rattle.cm_trees.specs.Kids.{IsKid};
 ghost use Rattle.cm_order.specs.Glances.{is_given_from, is_offered_from};
 ghost use Rattle.cm_order.specs.Search.{IsFreeAt};
 

@@ -7,7 +7,7 @@ ghost use Rattle.cm_decl.specs.Graph.{is_strong, is_from_child};
 ghost use Rattle.cm_world.specs.declared.row.Row.{Row};
 ghost use Rattle.cm_world.specs.Rows.{decl_of, is_subtree_shut};
 ghost use Rattle.cm_world.specs.Sound.{IsSound};
-ghost use Rattle.cm_order.specs.Kids.{IsKid};
+ghost use Rattle.cm_trees.specs.Kids.{IsKid};
 ghost use Rattle.cm_order.specs.Glances.{is_in_list, is_in_set, IsFreeKid, IsCleared, KnowsDependents};
 
 use crate::above::is_unshut;

@@ -11,7 +11,7 @@ ghost use Rattle.cm_world.specs.Rows.{row_of, decl_of};
 ghost use Rattle.cm_world.specs.RowsInside.{name_of};
 ghost use Rattle.cm_names.specs.declared.child.ChildName.{ChildName as OneName};
 ghost use Rattle.cm_world.specs.Sound.{IsSound};
-ghost use Rattle.cm_order.specs.Kids.{IsKid};
+ghost use Rattle.cm_trees.specs.Kids.{IsKid};
 ghost use Rattle.cm_order.specs.Glances.{is_in_list, is_client, ClientsGrow, is_offered, OfferedGrow};
 ghost use Rattle.cm_order.specs.Glances.{HasSources, HasOffered, HasNext, IsPut, KnowsDependents};
 ghost use Rattle.cm_order.specs.Glances.{is_strong_from, is_given_from, is_offered_from, is_used_from};

@@ -5,7 +5,7 @@
 
 ghost use Rattle.std.specs.Prelude.{◌≡◌, None, IsTrue, ◌↔◌, IfOk, IfSome};
 ghost use Rattle.cm_world.specs.Sound.{IsSound};
-ghost use Rattle.cm_order.specs.Kids.{IsKid};
+ghost use Rattle.cm_trees.specs.Kids.{IsKid};
 ghost use Rattle.cm_order.specs.Levels.{IsLevel};
 ghost use Rattle.cm_order.specs.Glances.{IsFreeKid};
 ghost use Rattle.cm_order.specs.Plans.{AreKnown};

@@ -4,7 +4,7 @@ ghost use Rattle.std.specs.Prelude.{◌≡◌, ◌++◌, ◌==◌, [], IfOk, OnO
 ghost use Rattle.std.specs.Option.{option_copied, option_map_or};
 ghost use Rattle.cm_world.specs.Rows.{row_of, has_doomed, is_subtree_shut};
 ghost use Rattle.cm_world.specs.Sound.{IsOrderly};
-ghost use Rattle.cm_order.specs.Names.{child_node, dynamic_child, dynamic_children};
+ghost use Rattle.cm_trees.specs.Names.{child_node, dynamic_child, dynamic_children};
 ghost use Rattle.cm_order.specs.Levels.{AreMembers};
 
 use crate::below::all_shut;

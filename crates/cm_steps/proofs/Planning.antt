@@ -27,12 +27,12 @@ use Rattle.cm_world.proofs.trees.Finding.{none_some, some_same}
 use Rattle.cm_decl.proofs.Sameness.{never}
 use Rattle.cm_order.specs.declared.plan.DescentPlan.{DescentPlan}
 use Rattle.cm_order.specs.declared.stand.Stand.{Stand}
-use Rattle.cm_order.specs.Kids.{IsKid}
+use Rattle.cm_trees.specs.Kids.{IsKid}
 use Rattle.cm_order.specs.declared.dependents.Dependents.{Dependents}
 use Rattle.cm_order.specs.Glances.{IsCleared, KnowsDependents}
 use Rattle.cm_order.specs.Plans.{IsFreeOnTheWay, IsKnownLevel, AreShutSoFar, IsDescent, IsPlan}
 use Rattle.cm_order.proofs.searches.Reaching.{plan_none}
-use Rattle.cm_order.proofs.trees.Trees.{below_lives, shut_each, shut_all}
+use Rattle.cm_trees.proofs.trees.Trees.{below_lives, shut_each, shut_all}
 use Rattle.cm_cache.specs.Right.{bare}
 use Rattle.cm_cache.specs.Keeping.{forgets}
 use Rattle.cm_cache.specs.Beside.{is_emptied, IsReported}

@@ -1,7 +1,6 @@
 pub mod Behind
 pub mod Drops
 pub mod EachItem
-pub mod Edits
 pub mod Editing
 pub mod Fitting
 pub mod BinarySearch

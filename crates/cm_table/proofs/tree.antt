@@ -1,13 +1,8 @@
-pub mod Adding
 pub mod Changes
 pub mod First
-pub mod Growth
 pub mod Leaves
-pub mod Orderly
 pub mod Removing
 pub mod Resolving
-pub mod Rows
-pub mod Siblings
 pub mod Standing
 pub mod Taking
 pub mod Wanting

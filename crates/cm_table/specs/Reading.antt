@@ -1,18 +1,13 @@
 -- Inside.
 -- Tests of single rows, by which proofs speak of searches in the tree, and the test that finds a builtin.
-use Rattle.std.specs.Prelude.{ℕ, List, Bool, not, ◌&&◌, Option}
+use Rattle.std.specs.Prelude.{ℕ, List, Bool, ◌&&◌, Option}
 use Rattle.std.specs.Str.{bytes_eq}
-use Rattle.cm_names.specs.declared.child.ChildName.{ChildName}
 use Rattle.cm_decl.specs.declared.kind.Kind.{Kind}
 use Rattle.cm_decl.specs.Same.{same_kind}
 use Rattle.cm_world.specs.declared.row.Row.{Row}
 use Rattle.cm_world.specs.declared.frame.Builtin.{Builtin}
-use Rattle.cm_world.specs.Rows.{has_parent, has_name}
+use Rattle.cm_world.specs.Rows.{has_parent}
 use Rattle.cm_world.specs.RowsInside.{is_behind}
-
--- whether a row is the child of p with this name, and isn't doomed: the test in `child_of`, for proofs
-abbrev pub is_there : ℕ → ChildName → Row → Bool
-is_there p c r = has_parent p r && has_name c r && not r.doomed
 
 -- whether a row is a child of p that was made after the given one: the test in `child_behind`, for proofs
 abbrev pub follows : ℕ → Option ℕ → Row → Bool

@@ -1,5 +1,4 @@
 pub mod Monikers
 pub mod Placed
 pub mod Up
-pub mod Standing
 pub mod Leading

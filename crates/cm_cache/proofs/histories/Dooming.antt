@@ -23,7 +23,8 @@ use Rattle.cm_cache.specs.Keeping.{resolves, comes_or_goes}
 use Rattle.cm_cache.specs.Right.{bare}
 use Rattle.cm_cache.specs.Beside.{IsReported, goes_some, goes_some_by}
 use Rattle.cm_cache.specs.Steps.{may_doom, OthersDoomNone, MarksDoom, ExitsDoom, EndsDoom}
-use Rattle.cm_cache.proofs.trees.Staying.{read_changed, increasing_changed, AllLive, all_live, doom_inc, goes, going, row_of-going, end_bare, was_doomed_by}
+use Rattle.cm_cache.proofs.trees.Staying.{read_changed, increasing_changed, AllLive, all_live, goes, going, row_of-going, end_bare, was_doomed_by}
+use Rattle.cm_trees.proofs.rows.Dooming.{doom_inc}
 
 -- whether a row is newly doomed
 abbrev newly : List Row → List Row → ℕ → Bool

@@ -27,6 +27,7 @@ use Rattle.cm_cache.specs.Keeping.{resolves, comes_or_goes}
 use Rattle.cm_cache.specs.Right.{bare}
 use Rattle.cm_cache.specs.Laws.{BareRowsStay, WalksStay}
 use Rattle.cm_cache.proofs.trees.Reading.{walks_read_bare_rows}
+use Rattle.cm_trees.proofs.rows.Dooming.{doom_inc}
 
 -- ---- a change of one row
 
@@ -120,10 +121,6 @@ none_passes d [] j r none e = absurd (none_some r e)
 none_passes d (x ∷ xs) j r none e =
     none_passes_by (x.inc == j) d j x r (row_of xs j) refl (or_false_first (d x.inc) (list_any (λ y. d y.inc) xs) none)
     (none_passes d xs j r (or_false_second (d x.inc) (list_any (λ y. d y.inc) xs) none)) e
-
-pub doom_inc : (t : Bool) (r : Row) → (cond t (set_doomed r) r).inc ≡ r.inc
-doom_inc true r = refl
-doom_inc false r = refl
 
 module _ (rows : List Row) (i : ℕ) where
   abbrev pub goes : Row → Bool

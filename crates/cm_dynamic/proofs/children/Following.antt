@@ -14,6 +14,7 @@ use Rattle.cm_world.specs.Create.{dynamic_by, dynamic_of, dynamic_children}
 use Rattle.cm_world.proofs.trees.Finding.{some_same, none_some, find-passes}
 use Rattle.cm_walk.proofs.descents.Behind.{behind_more}
 use Rattle.cm_dynamic.specs.Siblings.{sibling_by, sibling_of, siblings_behind}
+use Rattle.cm_trees.proofs.rows.Finding.{first_lives}
 
 -- a child of p whose incarnation is above the given one
 follows : ℕ → Option ℕ → Row → Bool
@@ -71,16 +72,12 @@ all_behind p after (r ∷ rs) all =
     ap (λ b. cons_option (cond b (dynamic_of p r) None) (filter_map (taken p after) rs)) all.0
     ∙ ap (cons_option (dynamic_of p r)) (all_behind p after rs all.1)
 
--- a row that lives
-living : (r : Row) (rs : List Row) → IsSome (row_of (r ∷ rs) r.inc)
-living r rs = ap (λ b. is_some (cond b (Some r) (row_of rs r.inc))) (eq-eqb r.inc r.inc refl)
-
 -- the rows behind one have higher incarnations
 above_all : (a next : ℕ) (rows : List Row) → ((s : ℕ) → IsSome (row_of rows s) → a < s) → IncarnationsIncrease next rows → AllBehind (Some a) rows
 unfolding AllBehind
 above_all a next [] above increasing = tt
 above_all a next (r ∷ rs) above increasing = (
-  lt-ltb a r.inc (above r.inc (living r rs)),
+  lt-ltb a r.inc (above r.inc (first_lives r rs)),
   above_all a next rs (λ s lives. above s (cond_is_some (r.inc == s) r (row_of rs s) lives)) increasing.1,
 )
 

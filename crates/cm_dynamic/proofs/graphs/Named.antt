@@ -1,7 +1,6 @@
 -- The child of a name in a collection: the one row that gives the name what it was given.
-use Rattle.std.proofs.Common.{◌≡◌, ℕ, ◌<◌, List, [], ◌∷◌, ◌++◌, Bool, true, false, cond, not, ◌&&◌, ◌||◌, ◌==◌, true≢false, Option, Some, None, IsTrue, is_some, find, map, option_map, option_and_then, refl, sym, ◌∙◌, ap, subst, arith, inl, inr}
+use Rattle.std.proofs.Common.{◌≡◌, ℕ, ◌<◌, List, [], ◌∷◌, ◌++◌, Bool, true, false, cond, not, ◌&&◌, ◌||◌, ◌==◌, true≢false, Option, Some, None, IsTrue, is_some, find, map, option_map, option_and_then, refl, sym, ◌∙◌, ap, arith, inl, inr}
 use Rattle.std.specs.List.{list_any, cons_option}
-use Rattle.std.specs.Option.{option_eq}
 use Rattle.std.proofs.lemmas.Bool.{eq-eqb, ne_eqb, and_from as and_pair, not-true, or_cases}
 use Rattle.std.proofs.lemmas.List.Folds.{list_any-append}
 use Rattle.std.specs.Cmp.{first_so, second_so}
@@ -12,14 +11,15 @@ use Rattle.cm_decl.specs.declared.node.DynChild.{DynChild}
 use Rattle.cm_decl.specs.declared.node.Node.TheVariants.{Child}
 use Rattle.cm_decl.specs.Same.{same_child, same_node}
 use Rattle.cm_decl.specs.Graph.{dynamic_node, gives_of}
-use Rattle.cm_decl.proofs.Sameness.{never, same_child_exact, same_node-refl}
+use Rattle.cm_decl.proofs.Sameness.{never, same_child_exact}
 use Rattle.cm_world.specs.declared.row.Row.{Row}
 use Rattle.cm_world.specs.Rows.{row_of, child_of, has_parent, has_name}
 use Rattle.cm_world.specs.Sound.{IncarnationsIncrease, IsOrderly}
 use Rattle.cm_world.specs.Create.{dynamic_by, dynamic_of, dynamic_children}
 use Rattle.cm_world.proofs.trees.Finding.{some_same, none_some, find-passes}
 use Rattle.cm_world.proofs.trees.Walks.{find-lives}
-use Rattle.cm_walk.proofs.ways.Standing.{find_some}
+use Rattle.cm_trees.proofs.trees.Standing.{find_some}
+use Rattle.cm_trees.proofs.names.Naming.{some_name, name_some}
 
 -- ---- children by their name
 
@@ -109,20 +109,13 @@ pub record IsNamed (rows : List Row) (p : ℕ) (c : ChildName) (q : List Give �
   pub found : child_of rows p c ≡ Some row.inc
   pub passes : IsTrue (q row.gives)
 
-named_by : (o : Option ChildName) (c : ChildName) → IsTrue (option_eq same_child o (Some c)) → o ≡ Some c
-named_by None c h = never h
-named_by (Some n) c h = ap Some (same_child_exact n c h)
-
-has_it : (o : Option ChildName) (c : ChildName) → o ≡ Some c → IsTrue (option_eq same_child o (Some c))
-has_it o c e = subst (λ n. IsTrue (option_eq same_child n (Some c))) (sym e) (same_node-refl (Child c))
-
 pub named : (rows : List Row) (next p : ℕ) (c : ChildName) (q : List Give → Bool) → IsOrderly rows next → IsTrue (has_one (λ k. q k.gives) c (dynamic_children rows p)) → IsNamed rows p c q
 named rows next p c q orderly any =
     let it : IsKin rows p c q = kin_in rows next p c q orderly.increasing any in
     let test : Row → Bool = λ r. has_parent p r && has_name c r && not r.doomed in
     let passes : IsTrue (test it.row) =
     and_pair (has_parent p it.row && has_name c it.row) (not it.row.doomed)
-    (and_pair (has_parent p it.row) (has_name c it.row) it.parent (has_it it.row.name c it.name)) (ap not it.kept) in
+    (and_pair (has_parent p it.row) (has_name c it.row) it.parent (name_some it.row.name c it.name)) (ap not it.kept) in
     let first : (r : Row) × (find test rows ≡ Some r) = find_some test rows it.row.inc it.row it.lives passes in
     let lives : row_of rows first.0.inc ≡ Some first.0 = find-lives test rows next first.0 orderly.increasing first.1 in
     let also : IsTrue (test first.0) = find-passes test rows first.0 first.1 in
@@ -131,7 +124,7 @@ named rows next p c q orderly any =
     orderly.one_name first.0.inc it.row.inc first.0 it.row lives it.lives
     (not-true first.0.doomed (second_so (has_parent p first.0 && has_name c first.0) (not first.0.doomed) also)) it.kept
     (option_eq_some first.0.parent p (first_so (has_parent p first.0) (has_name c first.0) both) ∙ sym (option_eq_some it.row.parent p it.parent))
-    (named_by first.0.name c (second_so (has_parent p first.0) (has_name c first.0) both) ∙ sym it.name) in
+    (some_name first.0.name c (second_so (has_parent p first.0) (has_name c first.0) both) ∙ sym it.name) in
     record {
       row = it.row;
       lives = it.lives;

@@ -24,7 +24,7 @@ use Rattle.cm_world.specs.After.{with_end_of, moved}
 use Rattle.cm_world.proofs.trees.Finding.{none_some, some_same}
 use Rattle.cm_laws.specs.Lasting.{begun_by}
 use Rattle.cm_laws.proofs.actions.Ends.{end_idle}
-use Rattle.cm_laws.proofs.sound.Expiries.{doom_pending}
+use Rattle.cm_trees.proofs.rows.Dooming.{doom_pending}
 
 -- an action of that number was begun
 abbrev pub IsKnown : List Act → ℕ → Type 0

@@ -15,7 +15,7 @@ use Rattle.cm_world.specs.World.{World, start, act_of}
 use Rattle.cm_world.specs.End.{put_outcome}
 use Rattle.cm_world.specs.After.{new_act, with_action, with_end_of, moved, after}
 use Rattle.cm_world.specs.Legal.{replay}
-use Rattle.cm_table.proofs.lists.Edits.{length-edit_first}
+use Rattle.cm_trees.proofs.rows.Edits.{length-edit_first}
 use Rattle.cm_laws.specs.Tasks.{IsNumbered}
 use Rattle.cm_laws.proofs.actions.Tasks.{numbered_more, numbered_ended}
 

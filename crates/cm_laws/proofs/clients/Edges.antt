@@ -21,11 +21,11 @@ use Rattle.cm_world.specs.Level.{is_child_row, is_level_node, child_row_sources,
 use Rattle.cm_world.specs.Sound.{IsOrderly}
 use Rattle.cm_world.specs.NextStation.{is_offer_to, offer_of, give_of, give_or, offered}
 use Rattle.cm_world.proofs.trees.Finding.{none_some, some_same, find-passes}
-use Rattle.cm_order.specs.Kids.{IsKid}
-use Rattle.cm_order.proofs.trees.Trees.{or_left, or_right, and_pair, eq_some}
-use Rattle.cm_order.proofs.names.Naming.{kid_not_own}
-use Rattle.cm_order.proofs.names.Edges.{kid_node}
+use Rattle.cm_trees.specs.Kids.{IsKid}
+use Rattle.cm_trees.proofs.trees.Trees.{or_left, or_right, and_pair, eq_some}
+use Rattle.cm_trees.proofs.names.Naming.{kid_not_own}
 use Rattle.cm_laws.proofs.levels.Kept.{own_or_kid, kid_sources}
+use Rattle.cm_trees.proofs.levels.Nodes.{kid_node}
 
 -- ---- lists
 

@@ -22,12 +22,12 @@ use Rattle.cm_world.specs.NextStation.{To, Ends, next_of, next_by}
 use Rattle.cm_world.specs.Route.{Named, First, NoUse, IsChain, last_of}
 use Rattle.cm_world.proofs.trees.Finding.{none_some, some_same}
 use Rattle.cm_world.proofs.trees.Walks.{child_lives, steps_fall, begins_down}
-use Rattle.cm_order.specs.Kids.{IsKid}
-use Rattle.cm_order.proofs.trees.Trees.{below_self, below_trans, kid_below, parent_lives, eq_some}
-use Rattle.cm_order.proofs.names.Edges.{kid_node}
+use Rattle.cm_trees.specs.Kids.{IsKid}
+use Rattle.cm_trees.proofs.trees.Trees.{below_self, below_trans, kid_below, parent_lives, eq_some}
 use Rattle.cm_laws.proofs.levels.Kept.{decl_row}
 use Rattle.cm_laws.proofs.clients.Next.{provided_at, instance_of, IsOffered, IsNext, by_parent, by_kid, by_itself, by_others, next_is}
 use Rattle.cm_laws.proofs.clients.Edges.{own_node, offer_edge, use_edge}
+use Rattle.cm_trees.proofs.levels.Nodes.{kid_node}
 
 -- the node of p's level that leads to a row: p itself to p, a child to all at and below it
 abbrev pub LeadsTo : List Row → ℕ → ℕ → ℕ → Type 0

@@ -10,11 +10,11 @@ use Rattle.cm_world.specs.Sound.{IsOrderly, IsSound}
 use Rattle.cm_world.specs.Stopping.{is_wholly_shut, IsFree, AllFree, line_up_to, MayStop}
 use Rattle.cm_world.specs.Clients.{IsClient}
 use Rattle.cm_world.proofs.trees.Finding.{some_same}
-use Rattle.cm_order.specs.Kids.{IsKid}
-use Rattle.cm_order.proofs.trees.Trees.{climb, below_cases, below_lives, below_least, below_trans, kid_higher, kid_below, shut_each, below_self}
-use Rattle.cm_order.proofs.names.Naming.{kid_not_own}
-use Rattle.cm_order.proofs.trees.Paths.{path_top, path}
-use Rattle.cm_order.proofs.trees.Tops.{IsTop, top_of}
+use Rattle.cm_trees.specs.Kids.{IsKid}
+use Rattle.cm_trees.proofs.trees.Trees.{climb, below_cases, below_lives, below_least, below_trans, kid_higher, kid_below, shut_each, below_self}
+use Rattle.cm_trees.proofs.names.Naming.{kid_not_own}
+use Rattle.cm_trees.proofs.trees.Paths.{path_top, path}
+use Rattle.cm_trees.proofs.trees.Tops.{IsTop, top_of}
 use Rattle.cm_laws.proofs.clients.Met.{LeadsTo, IsMet, met}
 
 module _ (rows : List Row) (next : ℕ) (sound : IsSound rows next) where

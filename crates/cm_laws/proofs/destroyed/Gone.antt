@@ -35,8 +35,8 @@ use Rattle.cm_world.specs.Legal.{IsStep, Legal, replay}
 use Rattle.cm_world.specs.Sound.{IsOrderly, IsParent}
 use Rattle.cm_world.proofs.trees.Finding.{some_same}
 use Rattle.cm_world.proofs.trees.Histories.{replay-append, replay-push, Legal-split}
-use Rattle.cm_table.proofs.tree.Rows.{lives_below}
-use Rattle.cm_order.proofs.trees.Trees.{climb, or_left, or_right, below_cases, below_lives, below_self}
+use Rattle.cm_trees.proofs.rows.Rows.{lives_below}
+use Rattle.cm_trees.proofs.trees.Trees.{climb, or_left, or_right, below_cases, below_lives, below_self}
 use Rattle.cm_laws.specs.Destroying.{named_in, asked_of, is_removing, IsDoomed, IsDestroyed, IsPurged, IsShunned, IsForgotten, KeepsGone, LeavesGone}
 use Rattle.cm_laws.specs.DestroyingInside.{DoomedAreDestroyed, DestroyedStayGone}
 use Rattle.cm_laws.proofs.entries.Entries.{of_each_entry}

@@ -46,7 +46,7 @@ use Rattle.cm_world.specs.Openings.{unready, unopened, routed, opened, opened_at
 use Rattle.cm_world.specs.Step.{PicksOn, Allowed}
 use Rattle.cm_world.specs.Expiring.{reaped}
 use Rattle.cm_world.proofs.trees.Finding.{none_some, some_same, row_of-inc}
-use Rattle.cm_order.proofs.trees.Trees.{all_rows, and_pair, not_flip}
+use Rattle.cm_trees.proofs.trees.Trees.{all_rows, and_pair, not_flip}
 use Rattle.cm_laws.specs.Destroying.{incs_of_provider, incs_of_route, named_in}
 use Rattle.cm_laws.proofs.entries.Answered.{passes_or}
 use Rattle.cm_laws.proofs.sound.Reaps.{reaped_doomed, doomed_live, all_more}

@@ -27,8 +27,8 @@ use Rattle.cm_world.specs.After.{with_end_of, others_than, moved, after}
 use Rattle.cm_world.specs.Legal.{IsStep, Legal, replay}
 use Rattle.cm_world.specs.Sound.{IsOrderly, IsParent}
 use Rattle.cm_world.proofs.trees.Finding.{some_same}
-use Rattle.cm_table.proofs.tree.Rows.{Becomes, becomes_after, lives_left}
-use Rattle.cm_order.proofs.trees.Trees.{not_true, below_least}
+use Rattle.cm_trees.proofs.rows.Rows.{Becomes, becomes_after, lives_left}
+use Rattle.cm_trees.proofs.trees.Trees.{not_true, below_least}
 use Rattle.cm_laws.proofs.actions.Tasks.{by_test, edit_other}
 use Rattle.cm_laws.proofs.sound.Above.{above_cases}
 use Rattle.cm_laws.proofs.sound.Marks.{IsLight, light_pending, light_on, light_end}

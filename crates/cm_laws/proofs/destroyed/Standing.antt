@@ -39,7 +39,7 @@ use Rattle.cm_world.specs.NextStation.{NextStation, To, Ends, Needs, FromVoid, N
 use Rattle.cm_world.specs.Route.{Named, First, NoUse, NoneExposed, named_by, IsChain, provider_of, route_of, weak_availability, weak_rights, unless_fitting, unless_within, is_offer_or_expose, standing as available, asked_rights, said_by, trial_by, IsDecided, IsWalkedFrom, IsWalked}
 use Rattle.cm_world.proofs.trees.Finding.{none_some, some_same, row_of-inc, find-passes}
 use Rattle.cm_world.proofs.trees.Walks.{find-lives}
-use Rattle.cm_order.proofs.trees.Trees.{and_pair, not_true}
+use Rattle.cm_trees.proofs.trees.Trees.{and_pair, not_true}
 use Rattle.cm_laws.specs.Destroying.{incs_of_provider, incs_of_route}
 use Rattle.cm_laws.proofs.sound.Above.{above_up, above_cases}
 

@@ -28,8 +28,8 @@ use Rattle.cm_world.specs.Legal.{IsStep, Legal, replay}
 use Rattle.cm_world.specs.Sound.{IsOrderly}
 use Rattle.cm_world.proofs.trees.Finding.{none_some, some_same}
 use Rattle.cm_world.proofs.trees.Histories.{replay-append, Legal-split}
-use Rattle.cm_table.proofs.tree.Rows.{Becomes, becomes_after, row_of-changed, lives_below}
-use Rattle.cm_order.proofs.trees.Trees.{climb, and_pair, or_left, below_cases, below_lives, below_self, below_up, shut_each, shut_all}
+use Rattle.cm_trees.proofs.rows.Rows.{Becomes, becomes_after, row_of-changed, lives_below}
+use Rattle.cm_trees.proofs.trees.Trees.{climb, and_pair, or_left, below_cases, below_lives, below_self, below_up, shut_each, shut_all}
 use Rattle.cm_laws.specs.Story.{Story, world_of, IsLegal, entry_of}
 use Rattle.cm_laws.specs.Shutdowns.{IsLeaving, IsDying, IsMarked, MarksHold, DoneStaysShut, ShutdownGoesOn}
 use Rattle.cm_laws.specs.ShutdownsInside.{MarksMark, MarksStay, ReapsMarked, MarkedMayClose, IsShutBelow, DoneIsOver, OverStays, OverMayPurge, ShutdownsGoOn}

@@ -23,16 +23,16 @@ use Rattle.cm_world.specs.Create.{dynamic_name, dynamic_children, dynamic_with, 
 use Rattle.cm_world.specs.After.{others_than}
 use Rattle.cm_world.proofs.trees.Finding.{none_some, some_same, row_of-inc}
 use Rattle.cm_world.proofs.trees.Walks.{below_next}
-use Rattle.cm_table.proofs.tree.Rows.{lives_left, lives_pushed, Was, was_before, row_of-changed, increasing_changed, increasing_push}
-use Rattle.cm_table.proofs.tree.Growth.{childless}
-use Rattle.cm_table.proofs.tree.Taking.{orderly_taken}
-use Rattle.cm_order.specs.Names.{dynamic_children as listed_children}
-use Rattle.cm_order.proofs.trees.Trees.{or_left, or_right, and_pair, not_true}
-use Rattle.cm_order.proofs.names.Naming.{IsNamedKid, child, kid_not_own, row_node, gives_same}
+use Rattle.cm_trees.proofs.rows.Rows.{lives_left, lives_pushed, Was, was_before, row_of-changed, increasing_changed, increasing_push}
+use Rattle.cm_trees.proofs.rows.Growth.{childless}
+use Rattle.cm_trees.specs.Names.{dynamic_children as listed_children}
+use Rattle.cm_trees.proofs.trees.Trees.{or_left, or_right, and_pair, not_true}
+use Rattle.cm_trees.proofs.names.Naming.{IsNamedKid, child, kid_not_own, row_node, gives_same}
 use Rattle.cm_laws.proofs.actions.Tasks.{by_test, find_split, edit_other}
 use Rattle.cm_laws.proofs.levels.Kept.{decl_row, row_decl, named_kid, WasKid, IsKept, kept_acyclic}
 use Rattle.cm_laws.proofs.levels.Named.{IsListed, named_acyclic, node_parts, given_parts}
 use Rattle.cm_laws.proofs.levels.Rows.{left_lives, left_increasing, IsNewKid, new_kid, same_children}
+use Rattle.cm_trees.proofs.rows.Taking.{orderly_taken}
 
 -- no level of these rows has a cycle of strong edges
 abbrev pub AllAcyclic : List Row → Type 0

@@ -1,7 +1,6 @@
 -- Levels whose strong edges all were there before a change of the rows.
 use Rattle.std.proofs.Common.{◌≡◌, ℕ, List, [], ◌∷◌, false, cond, ◌&&◌, ◌==◌, not, true≢false, Option, Some, None, IsTrue, find, is_some, option_map, option_and_then, refl, sym, ◌∙◌, ap, subst, inl, inr, ◌⊎◌}
 use Rattle.std.specs.List.{list_any}
-use Rattle.std.specs.Option.{option_eq}
 use Rattle.std.specs.Cmp.{unsigned_Decides, first_so, second_so}
 use Rattle.std.proofs.lemmas.Bool.{not-true, or_cases}
 use Rattle.cm_names.specs.declared.child.ChildName.{ChildName}
@@ -9,10 +8,9 @@ use Rattle.cm_facts.proofs.Options.{option_eq_some}
 use Rattle.cm_decl.specs.declared.decl.Decl.{Decl}
 use Rattle.cm_decl.specs.declared.origin.Origin.{Origin}
 use Rattle.cm_decl.specs.declared.origin.Origin.TheVariants as origin
-use Rattle.cm_decl.specs.Same.{same_child}
 use Rattle.cm_decl.specs.Graph.{own_sources, child_sources}
 use Rattle.cm_decl.specs.Reach.{NoCycle}
-use Rattle.cm_decl.proofs.Sameness.{never, same_child_exact}
+use Rattle.cm_decl.proofs.Sameness.{never}
 use Rattle.cm_world.specs.declared.row.Row.{Row}
 use Rattle.cm_world.specs.Rows.{row_of, is_live, decl_of, has_parent, has_name, child_of}
 use Rattle.cm_world.specs.Level.{is_child_row, is_level_node, row_sources, child_row_sources, level_sources, is_from_row, LevelStrong}
@@ -20,11 +18,11 @@ use Rattle.cm_world.specs.Sound.{IncarnationsIncrease, IsOrderly}
 use Rattle.cm_world.proofs.trees.Finding.{none_some, some_same, find-passes}
 use Rattle.cm_world.proofs.trees.Levels.{edge_source, edge_node}
 use Rattle.cm_world.proofs.trees.Walks.{find-lives}
-use Rattle.cm_order.specs.Kids.{IsKid}
-use Rattle.cm_order.proofs.trees.Trees.{eq_some, or_left, or_right, and_pair}
-use Rattle.cm_order.proofs.names.Naming.{IsNamedKid, kid_found}
-use Rattle.cm_order.proofs.names.Edges.{kid_node, node_kid}
+use Rattle.cm_trees.specs.Kids.{IsKid}
+use Rattle.cm_trees.proofs.trees.Trees.{eq_some, or_left, or_right, and_pair}
+use Rattle.cm_trees.proofs.names.Naming.{IsNamedKid, kid_found, some_name}
 use Rattle.cm_laws.proofs.levels.Mapped.{IsMapped, mapped_acyclic}
+use Rattle.cm_trees.proofs.levels.Nodes.{kid_node, node_kid}
 
 -- ---- what is declared at a row
 
@@ -63,10 +61,6 @@ like_sources d r s name gives =
 
 -- ---- the child that a name finds
 
-name_by : (o : Option ChildName) (c : ChildName) → IsTrue (option_eq same_child o (Some c)) → o ≡ Some c
-name_by None c h = never h
-name_by (Some b) c h = ap Some (same_child_exact b c h)
-
 module _ (rows : List Row) (next : ℕ) (increasing : IncarnationsIncrease next rows) (p : ℕ) where
   found_by : (c : ChildName) (x : ℕ) (o : Option Row) → find (λ r. has_parent p r && has_name c r && not r.doomed) rows ≡ o → option_map (λ r. r.inc) o ≡ Some x → IsNamedKid rows p x c
   found_by c x None found e = absurd (none_some x e)
@@ -80,7 +74,7 @@ module _ (rows : List Row) (next : ℕ) (increasing : IncarnationsIncrease next 
           parent = option_eq_some r.parent p (first_so (has_parent p r) (has_name c r) both);
         };
         there = not-true r.doomed (second_so (has_parent p r && has_name c r) (not r.doomed) passes);
-        name = name_by r.name c (second_so (has_parent p r) (has_name c r) both);
+        name = some_name r.name c (second_so (has_parent p r) (has_name c r) both);
       })
 
   -- it has that name, and isn't doomed

@@ -24,8 +24,8 @@ use Rattle.cm_world.specs.Rows.{row_of, decl_of, child_of}
 use Rattle.cm_world.specs.Level.{child_row_sources, level_sources, is_from_row, LevelStrong}
 use Rattle.cm_world.proofs.trees.Finding.{some_same}
 use Rattle.cm_world.proofs.trees.Levels.{edge_source}
-use Rattle.cm_order.proofs.trees.Trees.{or_left, or_right, and_pair}
-use Rattle.cm_order.proofs.names.Listing.{any_flat}
+use Rattle.cm_trees.proofs.trees.Trees.{or_left, or_right, and_pair}
+use Rattle.cm_trees.proofs.names.Listing.{any_flat}
 use Rattle.cm_laws.proofs.levels.Mapped.{mapped_acyclic}
 use Rattle.cm_laws.proofs.levels.Kept.{own_or_kid, kid_sources}
 

@@ -2,7 +2,7 @@
 use Rattle.std.proofs.Common.{◌≡◌, ℕ, ◌+◌, ◌≤◌, List, [], ◌∷◌, ◌++◌, Bool, true, false, cond, not, ◌&&◌, ◌==◌, Option, Some, None, IsTrue, filter, flat_map, is_some, option_and_then, refl, ◌∙◌, ap, subst, arith}
 use Rattle.std.specs.List.{list_any, cons_option}
 use Rattle.cm_names.specs.declared.child.ChildName.{ChildName}
-use Rattle.cm_facts.proofs.Options.{cond_some_more}
+use Rattle.cm_facts.proofs.Options.{cond_some_more, is_some_true}
 use Rattle.cm_decl.specs.declared.rows.Child.{Child as DeclaredChild}
 use Rattle.cm_decl.specs.declared.rows.Give.{Give}
 use Rattle.cm_decl.specs.declared.node.DynChild.{DynChild}
@@ -17,10 +17,10 @@ use Rattle.cm_world.specs.End.{child_row, child_rows}
 use Rattle.cm_world.specs.Create.{dynamic_children}
 use Rattle.cm_world.specs.Sound.{IncarnationsIncrease}
 use Rattle.cm_world.proofs.trees.Finding.{none_some, some_same}
-use Rattle.cm_table.proofs.tree.Rows.{some_is, is_some_by}
-use Rattle.cm_order.specs.Names.{dynamic_child, dynamic_children as listed_children}
-use Rattle.cm_order.proofs.trees.Trees.{or_left, or_right}
-use Rattle.cm_order.proofs.names.Listing.{row_later}
+use Rattle.cm_trees.proofs.rows.Rows.{is_some_by}
+use Rattle.cm_trees.specs.Names.{dynamic_child, dynamic_children as listed_children}
+use Rattle.cm_trees.proofs.trees.Trees.{or_left, or_right}
+use Rattle.cm_trees.proofs.names.Listing.{row_later}
 
 -- ---- rows that are left
 
@@ -45,7 +45,7 @@ module _ (t : Row → Bool) where
         rw e (
           (
             increasing.0.0,
-            λ x some. let row : (r : Row) × (row_of (filter t ss) x ≡ Some r) = some_is (row_of (filter t ss) x) some in
+            λ x some. let row : (r : Row) × (row_of (filter t ss) x ≡ Some r) = is_some_true (row_of (filter t ss) x) some in
                 increasing.0.1 x (is_some_by (row_of ss x) row.0 (left_lives ss next x row.0 increasing.1 row.1)),
           ),
           later,

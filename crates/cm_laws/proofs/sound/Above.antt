@@ -6,7 +6,7 @@ use Rattle.cm_world.specs.declared.row.Row.{Row}
 use Rattle.cm_world.specs.Rows.{row_of, at_or_above, some_above}
 use Rattle.cm_world.specs.Sound.{IsOrderly}
 use Rattle.cm_world.proofs.trees.Climbing.{some_above-step, above_root}
-use Rattle.cm_order.proofs.trees.Trees.{climb, or_left, or_right}
+use Rattle.cm_trees.proofs.trees.Trees.{climb, or_left, or_right}
 
 module _ (passes : Row → Bool) (rows : List Row) where
   nothing_above : (n i : ℕ) → row_of rows i ≡ None → at_or_above n passes rows (Some i) ≡ false

@@ -11,7 +11,7 @@ use Rattle.cm_world.specs.Rows.{row_of, has_parent, has_name, is_closing}
 use Rattle.cm_world.specs.End.{changed}
 use Rattle.cm_world.specs.Sound.{IsOrderly, IsWellShut, is_static_child, HasStatic, IsSound}
 use Rattle.cm_world.proofs.trees.Finding.{row_of-inc}
-use Rattle.cm_table.proofs.tree.Orderly.{IsKeeping, orderly_changed}
+use Rattle.cm_trees.proofs.rows.Orderly.{IsKeeping, orderly_changed}
 use Rattle.std.proofs.lemmas.List.Sums.{sum_by-cons}
 use Rattle.std.specs.Cmp.{second_so}
 use Rattle.cm_laws.proofs.sound.Rows.{Lasts, Follows, closing_lasts, Kept, kept, follows_changed}

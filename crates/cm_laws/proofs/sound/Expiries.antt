@@ -19,10 +19,11 @@ use Rattle.cm_world.specs.End.{changed, set_doomed}
 use Rattle.cm_world.specs.Sound.{IncarnationsIncrease, IsSound}
 use Rattle.cm_world.specs.Expiring.{coll_of, decl_above, is_once_by, runs_once, goes_with, expired, is_stopped, expired_by}
 use Rattle.cm_world.proofs.trees.Finding.{some_same, row_of-inc}
-use Rattle.cm_table.proofs.tree.Rows.{increasing_changed}
+use Rattle.cm_trees.proofs.rows.Rows.{increasing_changed}
 use Rattle.cm_laws.specs.Tasks.{HasRow, IsTasked}
 use Rattle.cm_laws.proofs.sound.Rows.{Lasts, Follows, lasts_itself}
 use Rattle.cm_laws.proofs.sound.Marks.{doomed_lasting, sound_doomed}
+use Rattle.cm_trees.proofs.rows.Dooming.{doom_inc, doom_pending}
 
 -- ---- rows that are each changed by their incarnations' leave
 
@@ -73,21 +74,12 @@ pub record Went (rows : List Row) (j : ℕ) (s : Row) : Type 0 where
   pub was : row_of rows j ≡ Some row
   pub is : (s ≡ row) ⊎ ((is_dynamic row ≡ true) × (s ≡ set_doomed row))
 
--- a row that may be marked keeps what is pending there
-pub doom_pending : (t : Bool) (r : Row) → (cond t (set_doomed r) r).pending ≡ r.pending
-doom_pending true r = refl
-doom_pending false r = refl
-
 module _ (rows : List Row) (i : ℕ) where
   abbrev goes : Row → Bool
   goes r = goes_with rows i r && not r.doomed
 
   abbrev going : Row → Row
   going r = cond (goes r) (set_doomed r) r
-
-  doom_inc : (t : Bool) (r : Row) → (cond t (set_doomed r) r).inc ≡ r.inc
-  doom_inc true r = refl
-  doom_inc false r = refl
 
   -- a row that was there is there, and may be doomed now
   pub row_of-expired : (j : ℕ) → row_of (expired i rows) j ≡ option_map going (row_of rows j)

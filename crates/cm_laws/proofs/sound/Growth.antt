@@ -24,18 +24,16 @@ use Rattle.cm_world.specs.Create.{dynamic_name, dynamic_with, created_row}
 use Rattle.cm_world.specs.End.{changed, set_decl, set_pending, child_row, child_rows, rows_by}
 use Rattle.cm_world.specs.Sound.{IsOrderly, IsWellShut, is_static_child, HasStatic, IsSound}
 use Rattle.cm_world.proofs.trees.Finding.{none_some, some_same, find-all}
-use Rattle.cm_table.proofs.tree.Rows.{row_of-changed}
-use Rattle.cm_table.proofs.tree.Orderly.{orderly_changed}
-use Rattle.cm_table.proofs.tree.Changes.{keeping}
-use Rattle.cm_table.proofs.tree.Growth.{childless}
-use Rattle.cm_table.proofs.tree.Taking.{orderly_taken}
-use Rattle.cm_table.proofs.tree.Adding.{orderly_added}
-use Rattle.cm_table.specs.declared.change.Change.TheVariants.{Resolve}
-use Rattle.cm_order.proofs.trees.Trees.{all_rows, not_true, not_flip}
+use Rattle.cm_trees.proofs.rows.Rows.{row_of-changed}
+use Rattle.cm_trees.proofs.rows.Orderly.{orderly_changed}
+use Rattle.cm_trees.proofs.rows.Growth.{childless}
+use Rattle.cm_trees.proofs.rows.Adding.{orderly_added}
+use Rattle.cm_trees.proofs.trees.Trees.{all_rows, not_true, not_flip}
 use Rattle.cm_laws.proofs.actions.Tasks.{by_test, find_split}
 use Rattle.cm_laws.proofs.sound.Rows.{Follows, follows_itself, follows_more, Kept, kept}
 use Rattle.cm_laws.proofs.sound.Changes.{count-cons, AreClosedWell, still_shut, IsFair, closed_changed, KeepsStatic, is_static_name, static_changed, places_same}
 use Rattle.cm_laws.proofs.levels.Acyclic.{acyclic_resolved, acyclic_created}
+use Rattle.cm_trees.proofs.rows.Taking.{keeps_taken, orderly_taken}
 
 -- ---- rows that come
 
@@ -220,7 +218,7 @@ module _ (rows : List Row) (next i : ℕ) (url : List ℕ) (d : Decl) (r : Row) 
   orderly = orderly_taken i next url d rows sound.orderly (ap is_some lives) none_decl valid
 
   orderly_now : IsOrderly now next
-  orderly_now = orderly_changed take (keeping (Resolve url d) valid) i next rows sound.orderly
+  orderly_now = orderly_changed take (keeps_taken url d valid) i next rows sound.orderly
 
   fair : IsFair rows i take
   fair = record {

@@ -13,7 +13,7 @@ use Rattle.cm_world.specs.Rows.{row_of, is_below, has_parent, has_name}
 use Rattle.cm_world.specs.After.{others_than}
 use Rattle.cm_world.specs.Sound.{IsOrderly, IsParent, is_static_child, HasStatic, IsSound}
 use Rattle.cm_world.proofs.trees.Finding.{some_same, row_of-inc}
-use Rattle.cm_order.proofs.trees.Trees.{all_rows, and_pair, not_true, not_flip, below_up, below_cases}
+use Rattle.cm_trees.proofs.trees.Trees.{all_rows, and_pair, not_true, not_flip, below_up, below_cases}
 use Rattle.cm_laws.proofs.sound.Rows.{was_left, is_left, increasing_left, Follows, follows_left}
 use Rattle.cm_laws.proofs.sound.Changes.{count-cons, AreClosedWell, still_shut, is_static_name}
 use Rattle.cm_laws.proofs.sound.Growth.{static_named}

@@ -13,7 +13,7 @@ use Rattle.cm_world.specs.Rows.{row_of, is_live, has_doomed, has_parent}
 use Rattle.cm_world.specs.Sound.{IsOrderly}
 use Rattle.cm_world.specs.Expiring.{doomed_children, reaped}
 use Rattle.cm_world.proofs.trees.Finding.{row_of-inc}
-use Rattle.cm_order.proofs.trees.Trees.{all_rows, and_pair}
+use Rattle.cm_trees.proofs.trees.Trees.{all_rows, and_pair}
 
 -- where each item that passes one test passes another, all that are left by the one pass the other
 all_filtered : {A : Type 0} (p q : A → Bool) (xs : List A) → IsTrue (list_all (λ x. not (p x) || q x) xs) → IsTrue (list_all q (filter p xs))

@@ -18,7 +18,7 @@ use Rattle.cm_world.specs.Step.{may_purge}
 use Rattle.cm_world.specs.Sound.{IsOrderly}
 use Rattle.cm_world.specs.Stopping.{MayPick}
 use Rattle.cm_world.proofs.trees.Finding.{none_some, find-passes}
-use Rattle.cm_order.proofs.trees.Trees.{climb, below_cases, below_lives}
+use Rattle.cm_trees.proofs.trees.Trees.{climb, below_cases, below_lives}
 use Rattle.cm_laws.proofs.entries.Answered.{passes_or, PassesRefusals, refused_passes}
 use Rattle.cm_laws.proofs.sound.Above.{above_here, above_up}
 

@@ -1,12 +1,13 @@
 -- What becomes of the rows of a tree when one is changed, when some are added, and when some are taken away.
 use Rattle.std.proofs.Common.{◌≡◌, ℕ, ◌≤◌, List, [], ◌∷◌, ◌++◌, Bool, true, false, cond, ◌==◌, Option, Some, None, IsTrue, filter, refl, sym, ◌∙◌, ap, subst, inl, inr, ◌⊎◌}
 use Rattle.std.specs.Cmp.{unsigned_Decides}
+use Rattle.cm_facts.proofs.Options.{is_some_true}
 use Rattle.cm_world.specs.declared.row.Row.{Row}
 use Rattle.cm_world.specs.Rows.{row_of, is_closing}
 use Rattle.cm_world.specs.End.{changed}
 use Rattle.cm_world.specs.Sound.{IncarnationsIncrease, IsOrderly}
 use Rattle.cm_world.proofs.trees.Finding.{none_some, some_same}
-use Rattle.cm_table.proofs.tree.Rows.{lives_left, Was, was_before, row_of-changed, some_is, is_some_by}
+use Rattle.cm_trees.proofs.rows.Rows.{lives_left, Was, was_before, row_of-changed, is_some_by}
 use Rattle.cm_laws.proofs.actions.Tasks.{by_test, edit_other, find_split}
 use Rattle.cm_laws.proofs.sound.Above.{above_lasts}
 
@@ -130,7 +131,7 @@ module _ (keeps : ℕ → Bool) where
   increasing_by true next x xs increasing rest = (
     (
       increasing.0.0,
-      λ s there. let r : (r : Row) × (row_of (left xs) s ≡ Some r) = some_is (row_of (left xs) s) there in
+      λ s there. let r : (r : Row) × (row_of (left xs) s ≡ Some r) = is_some_true (row_of (left xs) s) there in
           increasing.0.1 s (is_some_by (row_of xs s) r.0 (was_left xs s r.0 r.1).0),
     ),
     rest,

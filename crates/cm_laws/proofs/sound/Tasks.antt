@@ -7,7 +7,7 @@ use Rattle.cm_world.specs.Rows.{row_of, is_below, is_subtree_shut}
 use Rattle.cm_world.specs.After.{others_than}
 use Rattle.cm_world.specs.Sound.{IsSound}
 use Rattle.cm_world.proofs.trees.Finding.{none_some}
-use Rattle.cm_order.proofs.trees.Trees.{not_true, shut_each}
+use Rattle.cm_trees.proofs.trees.Trees.{not_true, shut_each}
 use Rattle.cm_laws.specs.Tasks.{HasRow, IsTasked}
 use Rattle.cm_laws.proofs.actions.Tasks.{find_left, find_split}
 use Rattle.cm_laws.proofs.sound.Purges.{stood, stands}

@@ -18,13 +18,13 @@ use Rattle.cm_world.specs.Rows.{row_of, decl_of, is_subtree_shut}
 use Rattle.cm_world.specs.RowsInside.{name_of}
 use Rattle.cm_world.specs.Level.{is_level_node, row_sources, level_sources, is_from_row, LevelStrong}
 use Rattle.cm_world.specs.Sound.{IsSound}
-use Rattle.cm_order.specs.Kids.{IsKid}
+use Rattle.cm_trees.specs.Kids.{IsKid}
 use Rattle.cm_order.specs.Search.{IsFreeAt}
 use Rattle.cm_order.specs.Glances.{is_given_from, is_offered_from}
-use Rattle.cm_order.proofs.trees.Trees.{or_left, or_right, and_pair, below_self, shut_each, not_true}
-use Rattle.cm_order.proofs.levels.Gathering.{kid_shut}
-use Rattle.cm_order.proofs.names.Edges.{kid_node}
+use Rattle.cm_trees.proofs.trees.Trees.{or_left, or_right, and_pair, below_self, shut_each, not_true}
 use Rattle.cm_order.proofs.names.Sources.{kid_all, gives_same}
+use Rattle.cm_trees.proofs.levels.Shut.{kid_shut}
+use Rattle.cm_trees.proofs.levels.Nodes.{kid_node}
 
 -- one of a list passes
 pub any_at : {A : Type 0} (q : A → Bool) (xs : List A) (i : ℕ) (item : A) → i < length xs → item ≡ get_or xs i item → IsTrue (q item) → IsTrue (list_any q xs)

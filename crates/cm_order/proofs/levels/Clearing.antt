@@ -10,7 +10,7 @@ use Rattle.cm_world.specs.Rows.{row_of}
 use Rattle.cm_world.specs.RowsInside.{facts_of}
 use Rattle.cm_world.proofs.trees.Finding.{none_some, some_same}
 use Rattle.cm_order.specs.declared.dependents.Dependents.{Dependents}
-use Rattle.cm_order.specs.Kids.{IsKid}
+use Rattle.cm_trees.specs.Kids.{IsKid}
 use Rattle.cm_order.specs.Glances.{is_in_list, is_in_set, IsCleared, KnowsDependents}
 use Rattle.cm_order.specs.Plans.{AreKnown}
 use Rattle.cm_order.proofs.levels.Lists.{same_number, cond_on, lists_left}

@@ -1,26 +1,27 @@
 -- What a loop over the children of a row gathers.
-use Rattle.std.proofs.Common.{◌≡◌, ℕ, ◌+◌, ◌-◌, ◌<◌, List, [], ◌∷◌, ◌++◌, Bool, true, false, ◌&&◌, ◌==◌, nat_lt, true≢false, Option, Some, None, IsTrue, IsSome, find, filter, flat_map, is_some, option_map, option_and_then, refl, sym, ◌∙◌, ap, subst, inl, inr, ◌⊎◌, arith, append_assoc, append-nil}
+use Rattle.std.proofs.Common.{◌≡◌, ℕ, ◌+◌, ◌-◌, ◌<◌, List, [], ◌∷◌, ◌++◌, Bool, true, false, ◌&&◌, ◌==◌, nat_lt, true≢false, Option, Some, None, IsTrue, IsSome, find, filter, flat_map, option_map, option_and_then, refl, sym, ◌∙◌, ap, subst, inl, inr, ◌⊎◌, arith, append_assoc, append-nil}
 use Rattle.std.specs.Option.{option_map_or}
 use Rattle.std.specs.Cmp.{unsigned_Decides, second_so}
 use Rattle.std.proofs.lemmas.Bool.{lt-ltb, ltb-true, le-ltb, and_right}
 use Rattle.std.proofs.lemmas.List.Folds.{list_any-append}
-use Rattle.cm_facts.proofs.Numbers.{eq_self}
 use Rattle.cm_facts.proofs.Options.{cond_is_some}
 use Rattle.cm_decl.specs.declared.node.DynChild.{DynChild}
 use Rattle.cm_world.specs.declared.row.Row.{Row}
-use Rattle.cm_world.specs.Rows.{row_of, has_parent, is_shut, is_subtree_shut}
+use Rattle.cm_world.specs.Rows.{row_of, has_parent, is_subtree_shut}
 use Rattle.cm_world.specs.RowsInside.{is_behind, child_behind}
 use Rattle.cm_world.specs.Sound.{IncarnationsIncrease, IsOrderly}
 use Rattle.cm_world.specs.Stopping.{is_wholly_shut}
 use Rattle.cm_world.proofs.trees.Finding.{none_some, some_same}
 use Rattle.cm_world.proofs.trees.Walks.{find-lives}
 use Rattle.cm_order.specs.declared.members.Member.{Member}
-use Rattle.cm_order.specs.Kids.{IsKid, kids}
-use Rattle.cm_order.specs.Names.{child_node, node_in, dynamic_child}
+use Rattle.cm_trees.specs.Kids.{IsKid, kids}
+use Rattle.cm_trees.specs.Names.{child_node, node_in, dynamic_child}
 use Rattle.cm_order.specs.Levels.{EachOfList, IsMember, has_member, AreMembers}
-use Rattle.cm_order.proofs.trees.Trees.{kid_higher, kid_within, or_left, or_right}
-use Rattle.cm_order.proofs.levels.Kids.{next_kid, other_kids, no_kids}
+use Rattle.cm_trees.proofs.trees.Trees.{kid_within, or_left, or_right}
+use Rattle.cm_trees.proofs.levels.Kids.{next_kid, other_kids, no_kids}
 use Rattle.cm_order.proofs.searches.Turns.{each_join}
+use Rattle.cm_trees.proofs.levels.Shut.{not_own, kid_shut}
+use Rattle.cm_trees.proofs.rows.Finding.{first_lives}
 
 -- ---- how many children can be left
 
@@ -39,14 +40,11 @@ room_less rows next p c after orderly found =
 
 -- ---- the list of the children
 
-rows_from : (s : Row) (ss : List Row) → IsTrue (is_some (row_of (s ∷ ss) s.inc))
-rows_from s ss = rw ((unsigned_Decides s.inc s.inc).1 refl) refl
-
 -- two tests that say the same of all rows above an incarnation keep the same of them
 same_rows : (q r : Row → Bool) (b : ℕ) → ((s : Row) → b < s.inc → q s ≡ r s) → (xs : List Row) → ((i : ℕ) → IsSome (row_of xs i) → b < i) → filter q xs ≡ filter r xs
 same_rows q r b same [] above = refl
 same_rows q r b same (s ∷ ss) above =
-    keep (q s) (r s) refl refl (same s (above s.inc (rows_from s ss))) (same_rows q r b same ss (λ i there. above i (cond_is_some (s.inc == i) s (row_of ss i) there)))
+    keep (q s) (r s) refl refl (same s (above s.inc (first_lives s ss))) (same_rows q r b same ss (λ i there. above i (cond_is_some (s.inc == i) s (row_of ss i) there)))
   where
     keep : (t u : Bool) → q s ≡ t → r s ≡ u → q s ≡ r s → filter q ss ≡ filter r ss → filter q (s ∷ ss) ≡ filter r (s ∷ ss)
     keep true true is other both rest = rw (is, other) (ap (λ l. s ∷ l) rest)
@@ -126,9 +124,6 @@ old_member old m x there = list_any-append (λ n. n.inc == x) old (m ∷ []) ∙
 new_member : (old : List Member) (m : Member) (x : ℕ) → m.inc ≡ x → IsTrue (has_member (old ++ m ∷ []) x)
 new_member old m x own = list_any-append (λ n. n.inc == x) old (m ∷ []) ∙ or_right (has_member old x) (has_member (m ∷ []) x) (one_member m x own)
 
-pub own_shut : (rows : List Row) (p : ℕ) → is_wholly_shut rows p p ≡ is_shut rows p
-own_shut rows p = rw (eq_self p) refl
-
 -- ---- children in collections
 
 module _ (rows : List Row) (next : ℕ) (orderly : IsOrderly rows next) where
@@ -151,26 +146,14 @@ module _ (rows : List Row) (next : ℕ) (orderly : IsOrderly rows next) where
 
   -- ---- members
 
-  not_own : (p c : ℕ) → IsKid rows p c → (c == p) ≡ false
-  not_own p c kid = by (c == p) refl where
-    by : (t : Bool) → (c == p) ≡ t → (c == p) ≡ false
-    by true e =
-        let same : c ≡ p = (unsigned_Decides c p).0 e in
-        let higher : p < c = kid_higher rows next orderly p c kid in
-        absurd (omega arith)
-    by false e = e
-
-  pub kid_shut : (p c : ℕ) → IsKid rows p c → is_wholly_shut rows p c ≡ is_subtree_shut rows c
-  kid_shut p c kid = rw (not_own p c kid) refl
-
   kid_node : (p c : ℕ) → IsKid rows p c → node_in rows p c ≡ option_and_then child_node (row_of rows c)
-  kid_node p c kid = rw (not_own p c kid) refl
+  kid_node p c kid = rw (not_own rows next orderly p c kid) refl
 
   kid_member : (p c : ℕ) (m : Member) → IsKid rows p c → m.inc ≡ c → m.node ≡ option_and_then child_node (row_of rows c) → m.shut ≡ is_subtree_shut rows c → IsMember rows p m
   kid_member p c m kid own node shut = record {
     place = inr (subst (IsKid rows p) (sym own) kid);
     node = node ∙ sym (ap (node_in rows p) own ∙ kid_node p c kid);
-    shut = shut ∙ sym (ap (is_wholly_shut rows p) own ∙ kid_shut p c kid);
+    shut = shut ∙ sym (ap (is_wholly_shut rows p) own ∙ kid_shut rows next orderly p c kid);
   }
 
   pub gathered_more : (p c : ℕ) (after : Option ℕ) (m : Member) (old new : List Member) → AreGathered rows p after old → Some c ≡ child_behind rows p after → new ≡ old ++ m ∷ [] → m.inc ≡ c → m.node ≡ option_and_then child_node (row_of rows c) → m.shut ≡ is_subtree_shut rows c → AreGathered rows p (Some c) new

@@ -15,17 +15,17 @@ use Rattle.cm_world.specs.LevelInside.{LevelOn}
 use Rattle.cm_world.specs.Sound.{IsOrderly, IsSound}
 use Rattle.cm_world.specs.Stopping.{is_wholly_shut}
 use Rattle.cm_order.specs.declared.search.SearchGoal.TheVariants.{Idle}
-use Rattle.cm_order.specs.Kids.{IsKid}
+use Rattle.cm_trees.specs.Kids.{IsKid}
 use Rattle.cm_order.specs.Search.{IsHere}
 use Rattle.cm_order.specs.declared.dependents.Dependents.{Dependents}
 use Rattle.cm_order.specs.Glances.{is_client, IsCleared, KnowsDependents, IsFreeKid, AreKidsShut}
 use Rattle.cm_order.specs.Plans.{AreShutSoFar}
-use Rattle.cm_order.proofs.trees.Trees.{kid_higher, below_kid, shut_each, shut_all}
-use Rattle.cm_order.proofs.levels.Kids.{other_kids, no_kids}
-use Rattle.cm_order.proofs.levels.Gathering.{own_shut, kid_shut}
+use Rattle.cm_trees.proofs.trees.Trees.{kid_higher, below_kid, shut_each, shut_all}
+use Rattle.cm_trees.proofs.levels.Kids.{other_kids, no_kids}
 use Rattle.cm_order.proofs.searches.Turns.{under}
-use Rattle.cm_order.proofs.names.Edges.{node_kid, depends_node}
-use Rattle.cm_order.proofs.names.Graphs.{direct_acyclic}
+use Rattle.cm_trees.proofs.names.Graphs.{direct_acyclic}
+use Rattle.cm_trees.proofs.levels.Shut.{own_shut, kid_shut}
+use Rattle.cm_trees.proofs.levels.Nodes.{node_kid, depends_node}
 
 module _ (rows : List Row) (next : ℕ) (sound : IsSound rows next) (p : ℕ) where
   apart : (c : ℕ) → IsKid rows p c → c ≢ p

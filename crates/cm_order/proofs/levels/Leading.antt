@@ -11,10 +11,10 @@ use Rattle.cm_world.specs.Sound.{IsOrderly}
 use Rattle.cm_world.specs.Stopping.{is_wholly_shut, IsFree}
 use Rattle.cm_world.proofs.trees.Finding.{none_some, some_same, find-passes}
 use Rattle.cm_order.specs.declared.members.Member.{Member}
-use Rattle.cm_order.specs.Kids.{IsKid}
+use Rattle.cm_trees.specs.Kids.{IsKid}
 use Rattle.cm_order.specs.Levels.{EachOfList, IsMember, has_member}
 use Rattle.cm_order.specs.Search.{IsFreeAt, LeadsNext}
-use Rattle.cm_order.proofs.levels.Kids.{next_kid, other_kids, no_kids}
+use Rattle.cm_trees.proofs.levels.Kids.{next_kid, other_kids, no_kids}
 
 -- ---- a member that is found
 

@@ -18,10 +18,10 @@ use Rattle.cm_world.specs.Stopping.{IsFree}
 use Rattle.cm_world.proofs.trees.Finding.{none_some, some_same}
 use Rattle.cm_order.specs.declared.members.Member.{Member}
 use Rattle.cm_order.specs.declared.level.Level.{Level}
-use Rattle.cm_order.specs.Names.{dynamic_children}
+use Rattle.cm_trees.specs.Names.{dynamic_children}
 use Rattle.cm_order.specs.Levels.{EachOfList, IsMember, AreMembers, HasGraph, IsLevelGraph, IsLevel, RowWould, MemberDepends, LeavesFree}
 use Rattle.cm_order.proofs.searches.Turns.{each_join}
-use Rattle.cm_order.proofs.names.Naming.{IsNamed, kept_named, kept_doomed}
+use Rattle.cm_trees.proofs.names.Naming.{IsNamed, kept_named, kept_doomed}
 use Rattle.cm_order.proofs.names.Edges.{free_members, members_free, nothing_on_doomed, free_alone}
 
 -- ---- lists

@@ -16,7 +16,7 @@ use Rattle.std.proofs.lemmas.Bool.{or_cases}
 use Rattle.cm_facts.proofs.Numbers.{eq_self}
 use Rattle.cm_decl.proofs.Sameness.{never}
 use Rattle.cm_order.specs.Glances.{is_in_list, is_client, ClientsGrow}
-use Rattle.cm_order.proofs.trees.Trees.{or_left, or_right}
+use Rattle.cm_trees.proofs.trees.Trees.{or_left, or_right}
 
 -- ---- a list
 

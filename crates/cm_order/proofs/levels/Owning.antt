@@ -14,14 +14,14 @@ use Rattle.cm_world.specs.Level.{is_from_row, LevelStrong}
 use Rattle.cm_world.specs.Sound.{IsSound}
 use Rattle.cm_world.specs.Stopping.{is_wholly_shut}
 use Rattle.cm_world.proofs.trees.Levels.{edge_source}
-use Rattle.cm_order.specs.Kids.{IsKid}
+use Rattle.cm_trees.specs.Kids.{IsKid}
 use Rattle.cm_order.specs.Search.{IsFreeAt}
 use Rattle.cm_order.specs.Glances.{AreKidsShut, HasKidLeft}
-use Rattle.cm_order.proofs.trees.Trees.{kid_higher}
-use Rattle.cm_order.proofs.levels.Gathering.{own_shut, kid_shut}
+use Rattle.cm_trees.proofs.trees.Trees.{kid_higher}
 use Rattle.cm_order.proofs.levels.Glancing.{free_by}
-use Rattle.cm_order.proofs.names.Edges.{kid_node}
 use Rattle.cm_order.proofs.names.Sources.{any_from, next_none, own_all}
+use Rattle.cm_trees.proofs.levels.Shut.{own_shut, kid_shut}
+use Rattle.cm_trees.proofs.levels.Nodes.{kid_node}
 
 -- what the declaration of a row says of its uses
 pub uses_by : (rows : List Row) (i : ℕ) (d : Decl) (uses : List Usage) (b : Bool) → Some d ≡ decl_of rows i → uses ≡ d.uses → b ≡ list_any (λ u. is_strong u.dependency && is_from_child u.from) uses → b ≡ option_map_or (λ d. list_any (λ u. is_strong u.dependency && is_from_child u.from) d.uses) (decl_of rows i) false

@@ -31,43 +31,19 @@ use Rattle.cm_world.specs.LevelInside.{LevelOn}
 use Rattle.cm_world.specs.Sound.{IsOrderly, IsSound}
 use Rattle.cm_world.specs.Stopping.{is_wholly_shut, IsFree}
 use Rattle.cm_world.proofs.trees.Finding.{none_some, some_same}
-use Rattle.cm_world.proofs.trees.Levels.{edge_source, edge_node}
+use Rattle.cm_world.proofs.trees.Levels.{edge_source}
 use Rattle.cm_order.specs.declared.members.Member.{Member}
-use Rattle.cm_order.specs.Kids.{IsKid}
-use Rattle.cm_order.specs.Names.{dynamic_children}
+use Rattle.cm_trees.specs.Kids.{IsKid}
+use Rattle.cm_trees.specs.Names.{dynamic_children}
 use Rattle.cm_order.specs.Levels.{EachOfList, IsMember, AreMembers, has_member, RowWould, MemberDepends, LeavesFree}
-use Rattle.cm_order.proofs.trees.Trees.{kid_higher, eq_some, or_left, or_right, and_pair, not_true}
-use Rattle.cm_order.proofs.names.Listing.{any_some}
-use Rattle.cm_order.proofs.names.Naming.{IsDoomedKid, IsNamed, itself, child, child_refl, name_once, not_itself, node_once, row_once, found_kid, kid_found, kid_not_own, kept_named, kept_doomed, row_node, node_row, gives_same}
+use Rattle.cm_trees.proofs.trees.Trees.{kid_higher, eq_some, or_left, and_pair, not_true}
+use Rattle.cm_trees.proofs.names.Listing.{any_some}
+use Rattle.cm_trees.proofs.names.Naming.{IsDoomedKid, IsNamed, itself, child, child_refl, name_once, not_itself, node_once, row_once, found_kid, kid_found, kid_not_own, kept_named, kept_doomed, row_node, node_row, gives_same}
+use Rattle.cm_trees.proofs.levels.Nodes.{kid_node, node_kid, depends_node}
 
 live_by : (o : Option Row) (d : Decl) → option_and_then (λ r. r.decl) o ≡ Some d → IsTrue (is_some o)
 live_by None d e = absurd (none_some d e)
 live_by (Some r) d e = refl
-
--- a child row is a node of the level
-pub kid_node : (rows : List Row) (p x : ℕ) → IsKid rows p x → IsTrue (is_level_node rows p x)
-kid_node rows p x kid =
-    or_right (x == p && is_live rows p) (is_child_row rows p x) (subst (λ o. IsTrue (option_map_or (has_parent p) o false)) (sym kid.lives) (eq_some kid.row.parent p kid.parent))
-
-pub kid_by : (rows : List Row) (p x : ℕ) (o : Option Row) → row_of rows x ≡ o → IsTrue (option_map_or (has_parent p) o false) → IsKid rows p x
-kid_by rows p x None lives h = never h
-kid_by rows p x (Some r) lives h = record { row = r; lives = lives; parent = option_eq_some r.parent p h }
-
--- a node of the level is p itself, or a child row
-pub node_kid : (rows : List Row) (p x : ℕ) → IsTrue (is_level_node rows p x) → (x ≡ p) ⊎ IsKid rows p x
-node_kid rows p x node = elim (or_cases (x == p && is_live rows p) (is_child_row rows p x) node) [
-  | inl own ↦ inl ((unsigned_Decides x p).0 (first_so (x == p) (is_live rows p) own))
-  | inr kid ↦ inr (kid_by rows p x (row_of rows x) refl kid)
-]
-
--- what depends on something is a node
-pub direct_node : (rows : List Row) (p x y : ℕ) → LevelOn rows p x y → IsTrue (is_level_node rows p x)
-direct_node rows p x y (inl strong) = edge_node rows p x y strong
-direct_node rows p x y (inr implied) = implied.node
-
-pub depends_node : (rows : List Row) (p x y : ℕ) → Depends (level rows p) x y → IsTrue (is_level_node rows p x)
-depends_node rows p x y ([], on) = direct_node rows p x y on
-depends_node rows p x y (z ∷ zs, way) = direct_node rows p x z way.0
 
 module _ (rows : List Row) (next : ℕ) (sound : IsSound rows next) (p : ℕ) (d : Decl) (found : decl_of rows p ≡ Some d) where
   -- ---- strong edges

@@ -21,12 +21,12 @@ use Rattle.cm_world.specs.Level.{is_level_node, row_sources, level_sources, is_f
 use Rattle.cm_world.specs.Sound.{IsSound}
 use Rattle.cm_world.proofs.trees.Finding.{some_same}
 use Rattle.cm_world.proofs.trees.Levels.{edge_source}
-use Rattle.cm_order.specs.Kids.{IsKid}
+use Rattle.cm_trees.specs.Kids.{IsKid}
 use Rattle.cm_order.specs.Glances.{is_client, ClientsGrow, is_offered, OfferedGrow, HasSources, HasOffered, HasNext, IsPut, is_given_from, is_offered_from, is_used_from}
-use Rattle.cm_order.proofs.trees.Trees.{or_left, or_right, and_pair}
-use Rattle.cm_order.proofs.levels.Kids.{other_kids, no_kids}
-use Rattle.cm_order.proofs.names.Naming.{kid_not_own}
-use Rattle.cm_order.proofs.names.Edges.{node_kid}
+use Rattle.cm_trees.proofs.trees.Trees.{or_left, or_right, and_pair}
+use Rattle.cm_trees.proofs.levels.Kids.{other_kids, no_kids}
+use Rattle.cm_trees.proofs.names.Naming.{kid_not_own}
+use Rattle.cm_trees.proofs.levels.Nodes.{node_kid}
 
 -- ---- lists that grow
 

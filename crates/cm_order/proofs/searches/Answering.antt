@@ -12,9 +12,9 @@ use Rattle.cm_world.proofs.trees.Finding.{none_some, some_same}
 use Rattle.cm_order.specs.declared.search.SearchGoal.TheVariants.{Idle, Pending}
 use Rattle.cm_order.specs.Search.{IsFound, NoneIs}
 use Rattle.cm_order.specs.Picking.{PickWaitsFor}
-use Rattle.cm_order.proofs.trees.Trees.{climb, below_lives, below_cases, below_trans, shut_each, shut_all}
-use Rattle.cm_order.proofs.trees.Tops.{IsTop, top_of, top_below, top_lives, no_top}
-use Rattle.cm_order.proofs.trees.Ending.{CanUnder, shut_or_can}
+use Rattle.cm_trees.proofs.trees.Trees.{climb, below_lives, below_cases, below_trans, shut_each, shut_all}
+use Rattle.cm_trees.proofs.trees.Tops.{IsTop, top_of, top_below, top_lives, no_top}
+use Rattle.cm_trees.proofs.trees.Ending.{CanUnder, shut_or_can}
 
 module _ (rows : List Row) (next : ℕ) (sound : IsSound rows next) where
   -- ---- nothing to be done

@@ -14,13 +14,13 @@ use Rattle.cm_world.specs.Sound.{IsOrderly}
 use Rattle.cm_world.specs.Step.{may_close}
 use Rattle.cm_world.specs.Stopping.{IsFree, AllFree, outermost, MayPick}
 use Rattle.cm_world.proofs.trees.Finding.{none_some, some_same, find-passes}
-use Rattle.cm_order.specs.Kids.{IsKid}
+use Rattle.cm_trees.specs.Kids.{IsKid}
 use Rattle.cm_order.specs.Search.{IsFreeAt}
 use Rattle.cm_order.specs.Picking.{MayBePicked}
 use Rattle.cm_order.specs.Ways.{is_idle, IsFreeUpTo}
-use Rattle.cm_order.proofs.trees.Trees.{climb, below_self, below_cases, below_lives, below_trans, kid_below}
-use Rattle.cm_order.proofs.trees.Tops.{top_of, top_below, no_top, closing_below}
-use Rattle.cm_order.proofs.trees.Paths.{path, path_top}
+use Rattle.cm_trees.proofs.trees.Trees.{climb, below_self, below_cases, below_lives, below_trans, kid_below}
+use Rattle.cm_trees.proofs.trees.Tops.{top_of, top_below, no_top, closing_below}
+use Rattle.cm_trees.proofs.trees.Paths.{path, path_top}
 use Rattle.cm_order.proofs.searches.Searching.{row_unshut, kid_leads}
 use Rattle.cm_order.specs.declared.search.SearchGoal.TheVariants.{Idle}
 

@@ -8,10 +8,10 @@ use Rattle.cm_world.proofs.trees.Walks.{below_next}
 use Rattle.cm_order.specs.declared.search.SearchGoal.TheVariants.{Idle}
 use Rattle.cm_order.specs.Search.{IsHere, IsFound}
 use Rattle.cm_order.specs.Glances.{IsChosen}
-use Rattle.cm_order.proofs.trees.Trees.{below_lives, below_self, kid_higher, kid_within}
-use Rattle.cm_order.proofs.trees.Tops.{top_below}
+use Rattle.cm_trees.proofs.trees.Trees.{below_lives, below_self, kid_higher, kid_within}
+use Rattle.cm_trees.proofs.trees.Tops.{top_below}
 use Rattle.cm_order.proofs.searches.Turns.{under}
-use Rattle.cm_order.proofs.trees.Paths.{path_top}
+use Rattle.cm_trees.proofs.trees.Paths.{path_top}
 use Rattle.cm_order.proofs.searches.Searching.{IsOpen, open_kid, searching_first, row_unshut}
 
 -- all levels from here up to the top are free

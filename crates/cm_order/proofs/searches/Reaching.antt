@@ -13,13 +13,13 @@ use Rattle.cm_world.proofs.trees.Finding.{some_same}
 use Rattle.cm_order.specs.declared.search.SearchGoal.TheVariants.{Idle}
 use Rattle.cm_order.specs.declared.stand.Stand.{Stand}
 use Rattle.cm_order.specs.declared.plan.DescentPlan.{DescentPlan}
-use Rattle.cm_order.specs.Kids.{IsKid}
+use Rattle.cm_trees.specs.Kids.{IsKid}
 use Rattle.cm_order.specs.declared.search.VisitResult.{VisitResult}
 use Rattle.cm_order.specs.declared.search.VisitResult.TheVariants.{Below}
 use Rattle.cm_order.specs.Glances.{IsFreeKid, IsGlance, KnowsDependents, AreKidsShut}
 use Rattle.cm_order.specs.Plans.{IsFreeOnTheWay, IsKnownLevel, IsStand, IsDescent, AreKnown, IsPlan, KnowsNone}
-use Rattle.cm_order.proofs.trees.Trees.{climb, below_self, below_up, below_cases, below_lives, below_least, below_trans, kid_below, kid_higher}
-use Rattle.cm_order.proofs.trees.Tops.{closing_below}
+use Rattle.cm_trees.proofs.trees.Trees.{climb, below_self, below_up, below_cases, below_lives, below_least, below_trans, kid_below, kid_higher}
+use Rattle.cm_trees.proofs.trees.Tops.{closing_below}
 use Rattle.cm_order.proofs.levels.Glancing.{shut_below}
 use Rattle.cm_order.proofs.searches.Turns.{under, each_join, each_split}
 use Rattle.cm_order.proofs.searches.Searching.{IsOpen, open_kid}

@@ -11,14 +11,14 @@ use Rattle.cm_world.proofs.trees.Finding.{some_same}
 use Rattle.cm_order.specs.declared.below.Spot.{Spot}
 use Rattle.cm_order.specs.declared.search.SearchGoal.{SearchGoal}
 use Rattle.cm_order.specs.Spots.{further}
-use Rattle.cm_order.specs.Kids.{IsKid}
+use Rattle.cm_trees.specs.Kids.{IsKid}
 use Rattle.cm_order.specs.Levels.{EachOfList}
 use Rattle.cm_order.specs.Search.{IsFreeAt, LeadsNext, IsNextLeading, is_wanted, IsHere, SearchGoesOn, IsFound, NoneIs}
-use Rattle.cm_order.proofs.trees.Trees.{below_self, below_kid, below_trans, kid_below, shut_each, not_true}
-use Rattle.cm_order.proofs.trees.Tops.{top_below}
+use Rattle.cm_trees.proofs.trees.Trees.{below_self, below_kid, below_trans, kid_below, shut_each, not_true}
+use Rattle.cm_trees.proofs.trees.Tops.{top_below}
 use Rattle.cm_order.proofs.searches.Turns.{past, under, turn_back, turn_on, last_of}
-use Rattle.cm_order.proofs.levels.Gathering.{own_shut, kid_shut}
-use Rattle.cm_order.proofs.trees.Paths.{path, path_top}
+use Rattle.cm_trees.proofs.trees.Paths.{path, path_top}
+use Rattle.cm_trees.proofs.levels.Shut.{own_shut, kid_shut}
 
 -- no row at or below this one is looked for, isn't shut and is free at each level up to it
 abbrev pub Clear : List Row → SearchGoal → ℕ → Type 0

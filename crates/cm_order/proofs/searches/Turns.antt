@@ -11,9 +11,9 @@ use Rattle.cm_world.specs.Sound.{IsOrderly}
 use Rattle.cm_order.specs.declared.below.Spot.{Spot}
 use Rattle.cm_order.specs.Spots.{further}
 use Rattle.cm_order.specs.Levels.{EachOfList}
-use Rattle.cm_order.specs.Kids.{IsKid}
-use Rattle.cm_order.proofs.trees.Trees.{below_self, below_kid, below_trans, kid_below, shut_each, shut_all, not_true}
-use Rattle.cm_order.proofs.levels.Kids.{next_kid, other_kids, no_kids}
+use Rattle.cm_trees.specs.Kids.{IsKid}
+use Rattle.cm_trees.proofs.trees.Trees.{below_self, below_kid, below_trans, kid_below, shut_each, shut_all, not_true}
+use Rattle.cm_trees.proofs.levels.Kids.{next_kid, other_kids, no_kids}
 
 pub each_join : {A : Type 0} (P : A → Type 0) (xs ys : List A) → EachOfList P xs → EachOfList P ys → EachOfList P (xs ++ ys)
 each_join P [] ys first second = second

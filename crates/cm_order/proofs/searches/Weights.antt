@@ -6,8 +6,8 @@ use Rattle.cm_world.specs.RowsInside.{is_behind}
 use Rattle.cm_world.specs.Sound.{IsOrderly}
 use Rattle.cm_order.specs.declared.below.Spot.{Spot}
 use Rattle.cm_order.specs.Spots.{further}
-use Rattle.cm_order.specs.Kids.{IsKid}
-use Rattle.cm_order.proofs.trees.Trees.{kid_higher, kid_within}
+use Rattle.cm_trees.specs.Kids.{IsKid}
+use Rattle.cm_trees.proofs.trees.Trees.{kid_higher, kid_within}
 
 -- more than twice as much for each incarnation that is left
 weight : ℕ → ℕ

@@ -22,7 +22,7 @@ use Rattle.cm_world.specs.Step.{MayEnd}
 use Rattle.cm_world.specs.Expiring.{expired_by}
 use Rattle.cm_world.specs.After.{with_end_of, counted, after}
 use Rattle.cm_table.specs.Tree.{Tree}
-use Rattle.cm_table.proofs.lists.Edits.{length-edit_first}
+use Rattle.cm_trees.proofs.rows.Edits.{length-edit_first}
 use Rattle.cm_steps.specs.declared.realm.Realm.TheInside.{Inside}
 use Rattle.cm_steps.specs.declared.ending.Ending.{Ending}
 use Rattle.cm_steps.specs.declared.ending.Ending.TheVariants as ending

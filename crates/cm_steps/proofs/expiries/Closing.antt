@@ -10,9 +10,9 @@ use Rattle.cm_world.specs.World.{rows_fit}
 use Rattle.cm_world.specs.End.{changed, end_row, rows_by, outcome_by}
 use Rattle.cm_world.specs.Expiring.{is_stopped}
 use Rattle.cm_world.specs.Sound.{IsOrderly}
-use Rattle.cm_table.proofs.tree.Rows.{row_of-changed}
-use Rattle.cm_table.proofs.tree.Orderly.{IsKeeping, orderly_changed}
-use Rattle.cm_order.proofs.trees.Trees.{or_left}
+use Rattle.cm_trees.proofs.rows.Rows.{row_of-changed}
+use Rattle.cm_trees.proofs.rows.Orderly.{IsKeeping, orderly_changed}
+use Rattle.cm_trees.proofs.trees.Trees.{or_left}
 use Rattle.cm_laws.proofs.sound.Above.{above_lives}
 use Rattle.cm_laws.proofs.sound.Rows.{closing_lasts, follows_changed}
 use Rattle.cm_laws.proofs.sound.Marks.{IsLight, light_end, light_lasts}

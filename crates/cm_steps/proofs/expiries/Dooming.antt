@@ -20,6 +20,7 @@ use Rattle.cm_world.proofs.trees.Walks.{find-lives}
 use Rattle.cm_laws.proofs.sound.Expiries.{once_row}
 use Rattle.cm_steps.specs.Expiring.{doomed_if_dynamic, doomed_below}
 use Rattle.cm_walk.proofs.descents.Behind.{next_of, IsNext, is_next, lives_on, behind_more}
+use Rattle.cm_trees.proofs.rows.Dooming.{doom_inc}
 
 -- ---- what a loop over children has done so far
 
@@ -151,16 +152,12 @@ module _ (p : ℕ) where
       ∙ ap (λ y. y ∷ doomed_up_to p after xs) (off (has_parent p x) x)
       ∙ ap (λ ys. x ∷ ys) (none_up after xs (λ s h. above s (lives_on x xs s h)))
 
-  dooms_inc : (t : Bool) (r : Row) → (cond t (set_doomed r) r).inc ≡ r.inc
-  dooms_inc true r = refl
-  dooms_inc false r = refl
-
   dooms_parent : (t : Bool) (r : Row) → (cond t (set_doomed r) r).parent ≡ r.parent
   dooms_parent true r = refl
   dooms_parent false r = refl
 
   up_inc_by : (t : Bool) (r : Row) → (cond t (doomed_if_dynamic r) r).inc ≡ r.inc
-  up_inc_by true r = dooms_inc (is_dynamic r && not r.doomed) r
+  up_inc_by true r = doom_inc (is_dynamic r && not r.doomed) r
   up_inc_by false r = refl
 
   up_parent_by : (t : Bool) (r : Row) → (cond t (doomed_if_dynamic r) r).parent ≡ r.parent

@@ -12,9 +12,9 @@ use Rattle.cm_world.specs.Rows.{decl_of, has_parent}
 use Rattle.cm_world.specs.Sound.{IsSound}
 use Rattle.cm_decl.specs.Graph.{StrongOn}
 use Rattle.cm_decl.specs.Reach.{NoCycle}
-use Rattle.cm_order.specs.Kids.{kids}
-use Rattle.cm_order.specs.Names as names
-use Rattle.cm_order.specs.Names.{dynamic_child}
+use Rattle.cm_trees.specs.Kids.{kids}
+use Rattle.cm_trees.specs.Names as names
+use Rattle.cm_trees.specs.Names.{dynamic_child}
 use Rattle.cm_order.proofs.names.Edges.{names_acyclic}
 use Rattle.cm_world.specs.World.{rows_fit}
 use Rattle.cm_world.specs.Create.{refused_create, CreatesUnder, CreatesUnless, IsCreateReply, dynamic_name, dynamic_children, dynamic_with}

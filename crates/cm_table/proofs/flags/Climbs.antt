@@ -9,8 +9,8 @@ use Rattle.cm_world.specs.Rows.{row_of, is_below, at_or_above, some_above}
 use Rattle.cm_world.specs.Sound.{IsOrderly, IsParent}
 use Rattle.cm_world.proofs.trees.Finding.{none_some, row_of-inc}
 use Rattle.cm_world.proofs.trees.Climbing.{some_above-step, above_root}
-use Rattle.cm_table.proofs.tree.Rows.{row_of-changed, Was, was_before, Becomes, becomes_after}
-use Rattle.cm_table.proofs.tree.Leaves.{below_itself}
+use Rattle.cm_trees.proofs.rows.Rows.{row_of-changed, Was, was_before, Becomes, becomes_after}
+use Rattle.cm_trees.proofs.trees.Standing.{below_self, nothing_above}
 
 -- ---- a row that doesn't live
 
@@ -18,12 +18,8 @@ none_above_by : (n : ℕ) (passes : Row → Bool) (rows : List Row) (i : ℕ) (o
 none_above_by n passes rows i None e = refl
 none_above_by n passes rows i (Some r) e = absurd (none_some r (sym e))
 
-none_above_at : (n : ℕ) (passes : Row → Bool) (rows : List Row) (i : ℕ) → row_of rows i ≡ None → at_or_above n passes rows (Some i) ≡ false
-none_above_at zero passes rows i e = refl
-none_above_at (suc n) passes rows i e = none_above_by n passes rows i (row_of rows i) e
-
 pub none_above : (passes : Row → Bool) (rows : List Row) (i : ℕ) → row_of rows i ≡ None → some_above passes rows i ≡ false
-none_above passes rows i e = none_above_at (length rows) passes rows i e
+none_above passes rows i e = nothing_above (length rows) passes rows i e
 
 -- ---- two trees in which rows stand alike
 
@@ -115,7 +111,7 @@ module _ (P : Row → Bool) (f : Row → Row) (rows : List Row) (next x : ℕ) (
   marked_by i r true same here later =
       let is : i ≡ x = (unsigned_Decides i x).0 same in
       let there : row_of after i ≡ Some (f r) = subst (λ n. row_of (changed n f rows) i ≡ Some (f r)) is (row_of-changed i f keeps rows r here) in
-      let own : is_below rows x i ≡ true = subst (λ n. is_below rows n i ≡ true) is (below_itself rows next i r o here) in
+      let own : is_below rows x i ≡ true = subst (λ n. is_below rows n i ≡ true) is (below_self rows next i r o here) in
       some_above-step P after next i (f r) on there
       ∙ ap (λ b. b || at_or_above (length after) P after (f r).parent) (hits r)
       ∙ sym (or-true (some_above P rows i)) ∙ sym (ap (λ b. some_above P rows i || b) own)

@@ -4,6 +4,7 @@ use Rattle.std.specs.Prelude.{option_map}
 use Rattle.std.proofs.lemmas.Bool.{or_right}
 use Rattle.cm_names.specs.declared.child.ChildName.{ChildName}
 use Rattle.cm_names.specs.declared.moniker.Moniker.{Moniker}
+use Rattle.cm_facts.proofs.Options.{is_some_true}
 use Rattle.cm_decl.specs.declared.decl.Decl.{Decl}
 use Rattle.cm_decl.specs.declared.rows.Child.{Child}
 use Rattle.cm_decl.specs.declared.rows.Give.{Give}
@@ -34,11 +35,11 @@ use Rattle.cm_table.specs.Slots.{inc_of, slot_of, rows_in, with_row_by, indexed_
 use Rattle.cm_table.proofs.lists.BinarySearch.{none_append}
 use Rattle.cm_table.proofs.lists.EachItem.{each_find}
 use Rattle.cm_table.proofs.lists.Editing.{edited, dropped}
-use Rattle.cm_table.proofs.tree.Adding.{resolved_by}
+use Rattle.cm_trees.proofs.rows.Adding.{resolved_by}
 use Rattle.cm_table.proofs.tree.Changes.{keeping}
-use Rattle.cm_table.proofs.tree.Orderly.{orderly_changed}
+use Rattle.cm_trees.proofs.rows.Orderly.{orderly_changed}
 use Rattle.cm_table.proofs.tree.Resolving.{IsTaken}
-use Rattle.cm_table.proofs.tree.Rows.{some_is, lives_left, row_of-changed}
+use Rattle.cm_trees.proofs.rows.Rows.{lives_left, row_of-changed}
 use Rattle.cm_table.proofs.tree.Leaves.{without, not_taken, above_same}
 use Rattle.cm_table.proofs.slots.Rowed.{row_of-slots, rows_append, rows_changed, rows_indexed, rows_same}
 use Rattle.cm_table.proofs.flags.Climbs.{IsTwin, tests_same, none_above, unmarked_changed, marked_changed}
@@ -222,7 +223,7 @@ pub flags_taken : (ss mid put ts news : List Slot) (i next more : ℕ) (a : List
 flags_taken ss mid put ts news i next more a d x m t o on lives valid told marks numbered flags =
     let f : Row → Row = change_row (change.Resolve a d) in
     let u : IsUnmarking f = unmarking (change.Resolve a d) tt in
-    let row : (q : Row) × (row_of (rows_in ss) i ≡ Some q) = some_is (row_of (rows_in ss) i) lives in
+    let row : (q : Row) × (row_of (rows_in ss) i ≡ Some q) = is_some_true (row_of (rows_in ss) i) lives in
     let after : IsOrderly (changed i f (rows_in ss)) next = orderly_changed f (keeping (change.Resolve a d) valid) i next (rows_in ss) o in
     let rows : rows_in put ≡ changed i f (rows_in ss) = ap rows_in t.indexed ∙ rows_indexed i (Some x) mid ∙ ap rows_in t.changed ∙ rows_changed i f ss in
     subst AreFlagged (sym t.pushed)

@@ -7,7 +7,7 @@ use Rattle.cm_facts.proofs.Options.{option_eq_some}
 use Rattle.cm_world.specs.declared.row.Row.{Row}
 use Rattle.cm_world.specs.Rows.{row_of, has_parent}
 use Rattle.cm_world.specs.RowsInside.{is_behind, child_behind}
-use Rattle.cm_world.specs.Sound.{IncarnationsIncrease, IsOrderly}
+use Rattle.cm_world.specs.Sound.{IsOrderly}
 use Rattle.cm_world.proofs.trees.Finding.{none_some, some_same, row_of-inc, find-passes}
 use Rattle.cm_world.proofs.trees.Walks.{find-lives}
 use Rattle.cm_table.specs.declared.marks.MarkKind.{MarkKind}
@@ -16,28 +16,10 @@ use Rattle.cm_table.specs.Flags.{flag_of}
 use Rattle.cm_table.specs.Leaf.{IsChildOf}
 use Rattle.cm_table.specs.Marking.{IsOpenChild, AreAllFlagged}
 use Rattle.cm_table.specs.Slots.{rows_in}
-use Rattle.cm_table.proofs.tree.Rows.{is_some_by, lives_below}
+use Rattle.cm_trees.proofs.rows.Rows.{lives_below}
+use Rattle.cm_trees.proofs.trees.Standing.{find_least}
 
 -- ---- the first that is found
-
-least_by : (a b : Bool) (q : Row → Bool) (x : Row) (xs : List Row) (next i : ℕ) (r s : Row) → q x ≡ a → (x.inc == i) ≡ b → IncarnationsIncrease next (x ∷ xs) → (find q xs ≡ Some r → row_of xs i ≡ Some s → r.inc ≤ i) → cond a (Some x) (find q xs) ≡ Some r → cond b (Some x) (row_of xs i) ≡ Some s → IsTrue (q s) → r.inc ≤ i
-least_by true true q x xs next i r s here at increasing later found lives passes =
-    let own : x.inc ≡ i = (unsigned_Decides x.inc i).0 at in
-    let same : x.inc ≡ r.inc = ap (λ z. z.inc) (some_same x r found) in
-    omega arith
-least_by true false q x xs next i r s here at increasing later found lives passes =
-    let low : x.inc < i = increasing.0.1 i (is_some_by (row_of xs i) s lives) in
-    let same : x.inc ≡ r.inc = ap (λ z. z.inc) (some_same x r found) in
-    omega arith
-least_by false true q x xs next i r s here at increasing later found lives passes =
-    absurd (true≢false (sym passes ∙ sym (ap q (some_same x s lives)) ∙ here))
-least_by false false q x xs next i r s here at increasing later found lives passes = later found lives
-
--- the row that is found first has no higher incarnation than any row that passes
-find_least : (q : Row → Bool) (rows : List Row) (next i : ℕ) (r s : Row) → IncarnationsIncrease next rows → find q rows ≡ Some r → row_of rows i ≡ Some s → IsTrue (q s) → r.inc ≤ i
-find_least q [] next i r s increasing found lives passes = absurd (none_some r found)
-find_least q (x ∷ xs) next i r s increasing found lives passes =
-    least_by (q x) (x.inc == i) q x xs next i r s refl refl increasing (λ f l. find_least q xs next i r s increasing.1 f l passes) found lives passes
 
 some_by : (a b : Bool) (q : Row → Bool) (x s : Row) (o t : Option Row) → q x ≡ a → (t ≡ Some s → o ≡ None → ⊥) → cond b (Some x) t ≡ Some s → IsTrue (q s) → cond a (Some x) o ≡ None → ⊥
 some_by true b q x s o t here later lives passes none = none_some x (sym none)

@@ -1,22 +1,23 @@
 -- What a mark leaves, once it has come to its end.
-use Rattle.std.proofs.Common.{◌≡◌, ℕ, zero, suc, ◌<◌, List, length, Bool, true, false, ◌||◌, ◌==◌, true≢false, Option, Some, None, refl, sym, ◌∙◌, ap, subst, ◌⊎◌, inl, inr, arith, ne_eqb}
+use Rattle.std.proofs.Common.{◌≡◌, ℕ, zero, suc, ◌<◌, List, length, Bool, true, false, ◌||◌, ◌==◌, true≢false, Option, Some, None, refl, sym, ◌∙◌, ap, subst, ◌⊎◌, inl, inr, arith}
 use Rattle.std.specs.Cmp.{unsigned_Decides, both_ways}
 use Rattle.std.proofs.lemmas.Bool.{or_left, or_right}
 use Rattle.cm_facts.proofs.Numbers.{lt_of_lt_suc}
+use Rattle.cm_facts.proofs.Options.{is_some_true}
 use Rattle.cm_world.specs.declared.row.Row.{Row}
 use Rattle.cm_world.specs.Rows.{row_of, is_below, at_or_above}
 use Rattle.cm_world.specs.Sound.{IsOrderly, IsParent}
-use Rattle.cm_world.proofs.trees.Finding.{none_some, row_of-inc}
+use Rattle.cm_world.proofs.trees.Finding.{row_of-inc}
 use Rattle.cm_world.proofs.trees.Climbing.{some_above-step, above_root}
 use Rattle.cm_table.specs.declared.marks.MarkKind.{MarkKind}
 use Rattle.cm_table.specs.declared.slot.Slot.{Slot}
 use Rattle.cm_table.specs.Flags.{flag_of}
 use Rattle.cm_table.specs.Marking.{IsDown, IsOpenWithin, GoesOn, GoesAnyway, Turns, Going, Marks, BeginsAt}
 use Rattle.cm_table.specs.Slots.{slot_of, rows_in}
-use Rattle.cm_table.proofs.tree.Rows.{some_is, is_some_by}
-use Rattle.cm_table.proofs.tree.Leaves.{below_itself}
+use Rattle.cm_trees.proofs.rows.Rows.{is_some_by}
 use Rattle.cm_table.proofs.slots.Rowed.{row_of-slots}
 use Rattle.cm_table.proofs.flags.Flagging.{row_of-slot, rows_alike}
+use Rattle.cm_trees.proofs.trees.Standing.{below_self, nothing_below}
 
 -- ---- what is at or below a row
 
@@ -31,18 +32,6 @@ above_lives (suc n) passes rows i e = above_lives_by n passes rows i (row_of row
 -- what is at or below a row lives
 below_lives : (rows : List Row) (top i : ℕ) → is_below rows top i ≡ true → (r : Row) × (row_of rows i ≡ Some r)
 below_lives rows top i e = above_lives (length rows) (λ r. r.inc == top) rows i e
-
-none_by : (n top i : ℕ) (rows : List Row) (o : Option Row) → row_of rows top ≡ None → row_of rows i ≡ o → ((u : Option ℕ) → at_or_above n (λ r. r.inc == top) rows u ≡ false) → elim o as (λ _. Bool) [ None ↦ false | Some r ↦ (r.inc == top) || at_or_above n (λ s. s.inc == top) rows r.parent ] ≡ false
-none_by n top i rows None none e later = refl
-none_by n top i rows (Some r) none e later =
-    let other : (r.inc == top) ≡ false = ne_eqb r.inc top (λ same. none_some r (sym none ∙ ap (row_of rows) (sym same ∙ row_of-inc rows i r e) ∙ e)) in
-    rw other (later r.parent)
-
--- nothing is at or below what doesn't live
-none_below : (n top : ℕ) (rows : List Row) (u : Option ℕ) → row_of rows top ≡ None → at_or_above n (λ r. r.inc == top) rows u ≡ false
-none_below zero top rows u none = refl
-none_below (suc n) top rows None none = refl
-none_below (suc n) top rows (Some i) none = none_by n top i rows (row_of rows i) none refl (λ u. none_below n top rows u none)
 
 module _ (k : MarkKind) where
   up_by : (ss : List Slot) (next top i : ℕ) (r : Row) (u : Option ℕ) → IsOrderly (rows_in ss) next → IsDown k ss → flag_of k ss top ≡ true → row_of (rows_in ss) i ≡ Some r → r.parent ≡ u → ((p : ℕ) → p < i → is_below (rows_in ss) top p ≡ true → flag_of k ss p ≡ true)
@@ -74,11 +63,11 @@ module _ (k : MarkKind) where
     by : (at : Option ℕ) → BeginsAt k ss top at → GoesAnyway k ss top at
     by None h = h
     by (Some i) h =
-        let q : (s : Slot) × (slot_of ss top ≡ Some s) = some_is (slot_of ss top) h.1 in
+        let q : (s : Slot) × (slot_of ss top ≡ Some s) = is_some_true (slot_of ss top) h.1 in
         let here : row_of (rows_in ss) top ≡ Some q.0.row = row_of-slot ss top q.0 q.1 in
         subst (IsOpenWithin k ss top) (sym h.0) (record {
           lives = is_some_by (row_of (rows_in ss) top) q.0.row here;
-          below = below_itself (rows_in ss) next top q.0.row o here;
+          below = below_self (rows_in ss) next top q.0.row o here;
           unmarked = h.2;
         })
 
@@ -121,4 +110,4 @@ module _ (k : MarkKind) where
         below_done i there b (inl done) = flagged_below (suc i) zs next top i there far.down done (omega arith) b
         below_done i there b (inr gone) =
             let none : row_of (rows_in zs) top ≡ None = row_of-slots zs top ∙ ap (λ o. elim o as (λ _. Option Row) [ None ↦ None | Some s ↦ Some s.row ]) gone in
-            absurd (true≢false (sym b ∙ none_below (length (rows_in zs)) top (rows_in zs) (Some i) none))
+            absurd (true≢false (sym b ∙ nothing_below (length (rows_in zs)) top (rows_in zs) (Some i) none))

@@ -3,6 +3,7 @@ use Rattle.std.proofs.Common.{◌≡◌, ℕ, ◌<◌, List, length, map, Bool, 
 use Rattle.std.specs.Prelude.{option_and_then}
 use Rattle.std.proofs.lemmas.Bool.{or_left, or_right}
 use Rattle.cm_facts.proofs.Booleans.{or_true_second}
+use Rattle.cm_facts.proofs.Options.{is_some_true}
 use Rattle.cm_world.specs.declared.row.Row.{Row}
 use Rattle.cm_world.specs.Edits.{edit_first}
 use Rattle.cm_world.specs.Rows.{row_of, is_live, is_below, at_or_above}
@@ -15,7 +16,7 @@ use Rattle.cm_table.specs.Flags.{flag_of}
 use Rattle.cm_table.specs.Leaf.{IsWithin, IsChildOf}
 use Rattle.cm_table.specs.Marking.{flagged, unmarked, IsDown, IsOpenWithin, IsOpenChild, IsBottom, GoesOn, Turns, open_count}
 use Rattle.cm_table.specs.Slots.{slot_of, rows_in}
-use Rattle.cm_table.proofs.tree.Rows.{some_is, is_some_by}
+use Rattle.cm_trees.proofs.rows.Rows.{is_some_by}
 use Rattle.cm_table.proofs.tree.Removing.{within_child}
 use Rattle.cm_table.proofs.flags.Flagging.{slot_of-row, flag-slot, rows_alike, same-flagged, others-flagged, flag-kept, flag-only, flag-hit, fewer-flagged}
 
@@ -70,7 +71,7 @@ pub goes_on : (k : MarkKind) (ss zs : List Slot) (next top b : ℕ) → IsOrderl
     → GoesOn k zs top (option_and_then (λ r. r.parent) (row_of (rows_in zs) b))
 goes_on k ss zs next top b o down bottom differ is =
     let rows : rows_in zs ≡ rows_in ss = rows_alike ss zs (ap (map unmarked) is ∙ same-flagged k b ss) in
-    let q : (r : Row) × (row_of (rows_in ss) b ≡ Some r) = some_is (row_of (rows_in ss) b) bottom.within.lives in
+    let q : (r : Row) × (row_of (rows_in ss) b ≡ Some r) = is_some_true (row_of (rows_in ss) b) bottom.within.lives in
     let other : (q.0.inc == top) ≡ false = ne_eqb q.0.inc top (λ e. differ (sym (row_of-inc (rows_in ss) b q.0 q.1) ∙ e)) in
     let above = or_true_second (q.0.inc == top) (at_or_above (length (rows_in ss)) (λ s. s.inc == top) (rows_in ss) q.0.parent) other (sym (some_above-step (λ s. s.inc == top) (rows_in ss) next b q.0 o q.1) ∙ bottom.within.below) in
     subst (λ u. GoesOn k zs top u) (sym (ap (λ l. option_and_then (λ r. r.parent) (row_of l b)) rows ∙ ap (option_and_then (λ r. r.parent)) q.1))
@@ -78,7 +79,7 @@ goes_on k ss zs next top b o down bottom differ is =
 
 lives_slot : (ss : List Slot) (b : ℕ) → is_live (rows_in ss) b ≡ true → (s : Slot) × (slot_of ss b ≡ Some s)
 lives_slot ss b h =
-    let q : (r : Row) × (row_of (rows_in ss) b ≡ Some r) = some_is (row_of (rows_in ss) b) h in
+    let q : (r : Row) × (row_of (rows_in ss) b ≡ Some r) = is_some_true (row_of (rows_in ss) b) h in
     let z : (s : Slot) × (slot_of ss b ≡ Some s) × (s.row ≡ q.0) = slot_of-row ss b q.0 q.1 in (z.0, z.1)
 
 pub turned : (k : MarkKind) (ss zs : List Slot) (top b : ℕ) (at : Option ℕ) → IsDown k ss → IsBottom k ss top b → zs ≡ edit_first (λ s. s.row.inc == b) (flagged k) ss → GoesOn k zs top at → Turns k top ss zs at

@@ -5,9 +5,8 @@ use Rattle.std.specs.Option.{option_eq}
 use Rattle.std.specs.Cmp.{unsigned_Decides, first_so, second_so}
 use Rattle.std.proofs.lemmas.Bool.{not-true}
 use Rattle.cm_names.specs.declared.child.ChildName.{ChildName}
-use Rattle.cm_facts.proofs.Options.{option_eq_some}
+use Rattle.cm_facts.proofs.Options.{option_eq_some, is_some_true}
 use Rattle.cm_decl.specs.Same.{same_child}
-use Rattle.cm_decl.proofs.Sameness.{same_child_exact}
 use Rattle.cm_world.specs.declared.row.Row.{Row}
 use Rattle.cm_world.specs.Edits.{drop_first}
 use Rattle.cm_world.specs.Rows.{row_of, has_parent, has_name, child_of}
@@ -18,10 +17,12 @@ use Rattle.cm_world.proofs.trees.Finding.{some_same, none_some, find-passes}
 use Rattle.cm_world.proofs.trees.Walks.{find-lives}
 use Rattle.cm_table.specs.Keys.{EachItem}
 use Rattle.cm_table.specs.Links.{unless}
-use Rattle.cm_table.specs.Reading.{is_there}
-use Rattle.cm_table.proofs.tree.Rows.{some_is, is_some_by, lives_below}
+use Rattle.cm_trees.proofs.rows.Rows.{is_some_by, lives_below}
 use Rattle.cm_table.proofs.tree.Leaves.{without, was_there, not_taken, increasing_without}
 use Rattle.cm_table.proofs.lists.BinarySearch.{no_some}
+use Rattle.cm_trees.specs.Reading.{is_there}
+use Rattle.cm_trees.proofs.names.Naming.{some_name}
+use Rattle.cm_trees.proofs.rows.Finding.{first_row as own_row}
 
 abbrev pub incs : List Row → List ℕ
 incs rows = map (λ r. r.inc) rows
@@ -131,10 +132,6 @@ find_kept t i (x ∷ xs) other = kept_by (t x) (x.inc == i) t i x xs refl refl o
 
 -- ---- the child of a name
 
-name_by : (c : ChildName) (o : Option ChildName) → IsTrue (option_eq same_child o (Some c)) → o ≡ Some c
-name_by c None h = absurd (true≢false (sym h))
-name_by c (Some d) h = ap Some (same_child_exact d c h)
-
 -- what is told of a row that is found by its name
 pub record IsNamed (rows : List Row) (p : ℕ) (c : ChildName) (r : Row) : Type 0 where
   pub lives : row_of rows r.inc ≡ Some r
@@ -149,7 +146,7 @@ named_row rows next p c r increasing e =
     record {
       lives = find-lives (is_there p c) rows next r increasing e;
       under = option_eq_some r.parent p (first_so (has_parent p r) (has_name c r) both);
-      named = name_by c r.name (second_so (has_parent p r) (has_name c r) both);
+      named = some_name r.name c (second_so (has_parent p r) (has_name c r) both);
       alive = not-true r.doomed (second_so (has_parent p r && has_name c r) (not r.doomed) passes);
     }
 
@@ -157,7 +154,7 @@ named_row rows next p c r increasing e =
 none_left : (rows : List Row) (next i p : ℕ) (c : ChildName) (r : Row) → IsOrderly rows next → find (is_there p c) rows ≡ Some r → r.inc ≡ i → find (is_there p c) (without i rows) ≡ None
 none_left rows next i p c r o e at =
     no_some (find (is_there p c) (without i rows)) (λ h.
-    let q : (s : Row) × (find (is_there p c) (without i rows) ≡ Some s) = some_is (find (is_there p c) (without i rows)) h in
+    let q : (s : Row) × (find (is_there p c) (without i rows) ≡ Some s) = is_some_true (find (is_there p c) (without i rows)) h in
     let first : IsNamed rows p c r = named_row rows next p c r o.increasing e in
     let second : IsNamed (without i rows) p c q.0 = named_row (without i rows) next p c q.0 (increasing_without i next rows o.increasing) q.1 in
     let there : row_of rows q.0.inc ≡ Some q.0 = was_there i next q.0.inc rows q.0 o.increasing second.lives in
@@ -247,9 +244,6 @@ child_right j c (x ∷ xs) ys none =
 pub has_by : (j : ℕ) (r : Row) (o : Option ℕ) → r.parent ≡ o → (r.parent ≡ Some j → ⊥) → has_parent j r ≡ false
 has_by j r None e other = ap (λ p. option_eq nat_eq p (Some j)) e
 has_by j r (Some q) e other = ap (λ p. option_eq nat_eq p (Some j)) e ∙ ne_eqb q j (λ same. other (e ∙ ap Some same))
-
-pub own_row : (x : Row) (xs : List Row) → row_of (x ∷ xs) x.inc ≡ Some x
-own_row x xs = ap (λ t. cond t (Some x) (row_of xs x.inc)) ((unsigned_Decides x.inc x.inc).1 refl)
 
 behind : (x r : Row) (xs : List Row) → ((j : ℕ) → IsSome (row_of xs j) → x.inc < j) → row_of xs r.inc ≡ Some r → row_of (x ∷ xs) r.inc ≡ Some r
 behind x r xs up here =

@@ -22,12 +22,12 @@ use Rattle.cm_table.specs.Keys.{EachItem, EachOf}
 use Rattle.cm_table.specs.Slots.{inc_of, slot_of, rows_in, indexed_by, with_row_by, kids_of, named_in, base_of, kids_at, named_at, IsIndexed}
 use Rattle.cm_table.specs.Links.{unless, IsSame, IsLinked, IsUnlinked}
 use Rattle.cm_table.specs.Numbering.{IsBare}
-use Rattle.cm_table.specs.Reading.{is_there}
 use Rattle.cm_table.proofs.tree.Leaves.{without}
 use Rattle.cm_table.proofs.lists.Editing.{edited, dropped}
 use Rattle.cm_table.proofs.lists.EachItem.{each_map, each_append, each_edited, each_dropped, each_zip, each_of_edited, both}
 use Rattle.cm_table.proofs.slots.Rowed.{slots_rise}
 use Rattle.cm_table.proofs.indexes.Children.{incs, kids, kids_changed, child_changed, filter_without, filter_fails, child_without, child_doomed, IsNamed, named_row, NoneHas, filter_none, find_none, filter_append, incs_append, kids_left, kids_right, child_left, child_right, none_high, has_by}
+use Rattle.cm_trees.specs.Reading.{is_there}
 
 -- ---- another row in a slot
 

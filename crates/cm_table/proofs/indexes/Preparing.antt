@@ -18,11 +18,11 @@ use Rattle.cm_table.specs.declared.marks.MarksAbove.{MarksAbove}
 use Rattle.cm_table.specs.declared.slot.Slot.{Slot}
 use Rattle.cm_table.specs.Slots.{rows_in}
 use Rattle.cm_table.specs.Numbering.{bare_slot}
-use Rattle.cm_table.specs.Reading.{is_there}
 use Rattle.cm_table.proofs.slots.Rowed.{rows_append}
-use Rattle.cm_table.proofs.tree.Siblings.{IsFresh, AreApart, valid_apart}
+use Rattle.cm_trees.proofs.rows.Siblings.{IsFresh, AreApart, valid_apart}
 use Rattle.cm_table.proofs.indexes.Children.{incs, incs_append}
 use Rattle.cm_table.proofs.indexes.Indexing.{child_pushed}
+use Rattle.cm_trees.specs.Reading.{is_there}
 
 -- ---- no child yet
 

@@ -5,7 +5,7 @@ use Rattle.std.specs.List.{flat_map}
 use Rattle.std.specs.Cmp.{unsigned_Decides}
 use Rattle.cm_world.specs.Edits.{edit_first, drop_first}
 use Rattle.cm_table.specs.Keys.{item_of, Increasing, Filled, AreFilledBut, IsItemAt, IsPlace}
-use Rattle.cm_table.proofs.lists.Edits.{edit_first-at}
+use Rattle.cm_trees.proofs.rows.Edits.{edit_first-at}
 use Rattle.cm_table.proofs.lists.Drops.{drop_first-at}
 use Rattle.cm_table.proofs.lists.BinarySearch.{increasing_back, none_at_zero, none_in_prefix, tail_place, others_before}
 

@@ -10,8 +10,8 @@ use Rattle.cm_world.specs.RowsInside.{child_behind}
 use Rattle.cm_world.specs.Sound.{IsOrderly, IsParent}
 use Rattle.cm_world.proofs.trees.Climbing.{names_to-step, names_root}
 use Rattle.cm_table.proofs.tree.Leaves.{without, was_there, orderly_without}
-use Rattle.cm_table.proofs.tree.Orderly.{IsKeeping, kept_name, kept_parent}
-use Rattle.cm_table.proofs.tree.Rows.{lives_left, Becomes, becomes_after}
+use Rattle.cm_trees.proofs.rows.Orderly.{IsKeeping, kept_name, kept_parent}
+use Rattle.cm_trees.proofs.rows.Rows.{lives_left, Becomes, becomes_after}
 
 -- the row of an incarnation in another tree, which has the same parent and the same name
 pub record IsNamesake (b : List Row) (i : ℕ) (r : Row) : Type 0 where

@@ -5,6 +5,7 @@ use Rattle.std.specs.Option.{option_copied}
 use Rattle.std.specs.Cmp.{unsigned_Decides}
 use Rattle.cm_names.specs.declared.child.ChildName.{ChildName}
 use Rattle.cm_names.specs.declared.moniker.Moniker.{Moniker}
+use Rattle.cm_facts.proofs.Options.{is_some_true}
 use Rattle.cm_decl.specs.declared.decl.Decl.{Decl}
 use Rattle.cm_decl.specs.declared.rows.Child.{Child}
 use Rattle.cm_decl.specs.declared.rows.Give.{Give}
@@ -31,12 +32,12 @@ use Rattle.cm_table.specs.Slots.{inc_of, slot_of, rows_in, with_row_by, indexed_
 use Rattle.cm_table.proofs.lists.BinarySearch.{some_prefix, none_append}
 use Rattle.cm_table.proofs.lists.EachItem.{each_find}
 use Rattle.cm_table.proofs.lists.Editing.{edited, dropped}
-use Rattle.cm_table.proofs.tree.Adding.{resolved_by}
+use Rattle.cm_trees.proofs.rows.Adding.{resolved_by}
 use Rattle.cm_table.proofs.tree.Changes.{keeping}
 use Rattle.cm_table.proofs.tree.Leaves.{without, not_taken}
-use Rattle.cm_table.proofs.tree.Orderly.{IsKeeping, orderly_changed}
+use Rattle.cm_trees.proofs.rows.Orderly.{IsKeeping, orderly_changed}
 use Rattle.cm_table.proofs.tree.Resolving.{IsTaken}
-use Rattle.cm_table.proofs.tree.Rows.{some_is, row_of-changed}
+use Rattle.cm_trees.proofs.rows.Rows.{row_of-changed}
 use Rattle.cm_table.proofs.slots.Rowed.{rows_append, rows_changed, rows_indexed, rows_same}
 use Rattle.cm_table.proofs.flags.Flagging.{row_of-slot, slot_of-none, rows_alike}
 use Rattle.cm_table.proofs.monikers.Names.{moniker_changed, moniker_left, moniker_before, moniker_child}
@@ -194,7 +195,7 @@ pub standing_taken : (ss mid put ts news : List Slot) (i next more : ℕ) (a : L
 standing_taken ss mid put ts news i next more a d x above t o on lives valid is below numbered stands =
     let f : Row → Row = change_row (change.Resolve a d) in
     let k : IsKeeping f = keeping (change.Resolve a d) valid in
-    let row : (q : Row) × (row_of (rows_in ss) i ≡ Some q) = some_is (row_of (rows_in ss) i) lives in
+    let row : (q : Row) × (row_of (rows_in ss) i ≡ Some q) = is_some_true (row_of (rows_in ss) i) lives in
     let after : IsOrderly (changed i f (rows_in ss)) next = orderly_changed f k i next (rows_in ss) o in
     let rows : rows_in put ≡ changed i f (rows_in ss) = ap rows_in t.indexed ∙ rows_indexed i (Some x) mid ∙ ap rows_in t.changed ∙ rows_changed i f ss in
     let same : moniker_of (rows_in put) i ≡ moniker_of (rows_in ss) i = ap (λ l. moniker_of l i) rows ∙ moniker_changed f (rows_in ss) next i i row.0 k o after row.1 in

@@ -13,9 +13,9 @@ use Rattle.cm_table.specs.Keys.{EachItem, EachOf}
 use Rattle.cm_table.specs.Slots.{slot_of, rows_in, base_of, IsIndexed}
 use Rattle.cm_table.specs.Links.{IsLinked}
 use Rattle.cm_table.specs.Numbering.{bare_slot}
-use Rattle.cm_table.proofs.tree.Rows.{lives_below}
+use Rattle.cm_trees.proofs.rows.Rows.{lives_below}
 use Rattle.cm_table.proofs.lists.EachItem.{each_map}
-use Rattle.cm_table.proofs.tree.Adding.{resolved_by}
+use Rattle.cm_trees.proofs.rows.Adding.{resolved_by}
 use Rattle.cm_table.proofs.slots.Rowed.{some_rows, rows_append, rows_same}
 use Rattle.cm_table.proofs.indexes.Indexing.{all_linked, each_at}
 

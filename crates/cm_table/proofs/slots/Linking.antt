@@ -3,6 +3,7 @@ use Rattle.std.proofs.Common.{◌≡◌, ℕ, ◌<◌, ◌+◌, List, [], ◌∷
 use Rattle.std.specs.Prelude.{option_map, option_and_then, OnOk, OnErr, Result, Ok, Err}
 use Rattle.std.specs.Option.{option_eq}
 use Rattle.cm_names.specs.declared.child.ChildName.{ChildName}
+use Rattle.cm_facts.proofs.Options.{is_some_true}
 use Rattle.cm_decl.specs.declared.node.Node.TheVariants.{Child}
 use Rattle.cm_decl.specs.Same.{same_child}
 use Rattle.cm_decl.proofs.Sameness.{same_node-refl}
@@ -16,7 +17,7 @@ use Rattle.cm_table.specs.declared.slot.ChildIndex.{ChildIndex}
 use Rattle.cm_table.specs.Keys.{EachItem, EachOf, Increasing}
 use Rattle.cm_table.specs.Slots.{inc_of, slot_of, rows_in, indexed_by, kids_of, named_in, base_of, IsIndexed, AreOrderly}
 use Rattle.cm_table.specs.Links.{unless, Rises, IsSame, IsLinked, IsUnlinked}
-use Rattle.cm_table.proofs.tree.Rows.{some_is, is_some_by}
+use Rattle.cm_trees.proofs.rows.Rows.{is_some_by}
 use Rattle.cm_table.proofs.lists.EachItem.{each_find, each_same, each_of_edited}
 use Rattle.cm_table.proofs.indexes.Naming.{same_above}
 use Rattle.cm_table.proofs.lists.Editing.{edited}
@@ -123,7 +124,7 @@ pub parent_lives : (ss : List Slot) (i p : ℕ) → AreOrderly ss → option_and
 parent_lives ss i p a up =
     let r = parent_row (slot_of ss i) p up in
     let q = (a.orderly.parents i p r.0 (row_of-slots ss i ∙ r.1) r.2).0 in
-    some_is (slot_of ss p) (sym (some_rows ss p) ∙ is_some_by (row_of (rows_in ss) p) q.row q.lives)
+    is_some_true (slot_of ss p) (sym (some_rows ss p) ∙ is_some_by (row_of (rows_in ss) p) q.row q.lives)
 
 name_of_row : (o : Option Slot) (c : ChildName) (r : Row) → option_map (λ s. s.row) o ≡ Some r → r.name ≡ Some c → option_and_then (λ s. s.row.name) o ≡ Some c
 name_of_row None c r h e = absurd (none_some r h)

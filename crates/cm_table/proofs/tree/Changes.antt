@@ -1,15 +1,14 @@
 -- The changes of a table leave its rows orderly.
-use Rattle.std.proofs.Common.{true≢false, refl, subst, inl, inr}
-use Rattle.cm_decl.specs.Valid.{IsValid}
+use Rattle.std.proofs.Common.{true≢false, refl, inl}
 use Rattle.cm_world.specs.declared.action.Outcome.{Outcome}
 use Rattle.cm_world.specs.declared.action.Outcome.TheVariants.{Started, Stopped, Killed}
 use Rattle.cm_world.specs.End.{end_row, set_closing}
-use Rattle.cm_world.proofs.trees.Finding.{some_same}
 use Rattle.cm_table.specs.declared.change.Change.{Change}
 use Rattle.cm_table.specs.declared.change.Change.TheVariants.{On, Pending, Closing, Doomed, Shut, End, Resolve}
 use Rattle.cm_table.specs.Change.{change_row, IsSafe, IsSparing}
-use Rattle.cm_table.proofs.tree.Orderly.{IsKeeping}
+use Rattle.cm_trees.proofs.rows.Orderly.{IsKeeping}
 use Rattle.cm_table.proofs.indexes.Indexing.{SparesRows}
+use Rattle.cm_trees.proofs.rows.Taking.{keeps_taken}
 
 -- an end keeps a row's place and its declaration
 keeping_end : (o : Outcome) → IsKeeping (end_row o)
@@ -26,7 +25,7 @@ keeping Closing safe = record { inc = λ r. refl; parent = λ r. refl; name = λ
 keeping Doomed safe = record { inc = λ r. refl; parent = λ r. refl; name = λ r. refl; doomed = λ r h. absurd (true≢false h); resolved = λ r h. h; valid = λ r d h. inl h }
 keeping Shut safe = record { inc = λ r. refl; parent = λ r. refl; name = λ r. refl; doomed = λ r h. h; resolved = λ r h. h; valid = λ r d h. inl h }
 keeping (End o) safe = keeping_end o
-keeping (Resolve absolute d) safe = record { inc = λ r. refl; parent = λ r. refl; name = λ r. refl; doomed = λ r h. h; resolved = λ r h. refl; valid = λ r e h. inr (subst IsValid (some_same d e h) safe) }
+keeping (Resolve absolute d) safe = keeps_taken absolute d safe
 
 spares_end : (o : Outcome) → SparesRows (end_row o)
 spares_end Started = record { inc = λ r. refl; parent = λ r. refl; name = λ r. refl; doomed = λ r. refl }

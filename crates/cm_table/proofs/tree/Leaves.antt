@@ -3,18 +3,20 @@ use Rattle.std.proofs.Common.{◌≡◌, ℕ, zero, suc, ◌+◌, ◌<◌, List,
 use Rattle.std.specs.Option.{option_eq}
 use Rattle.std.specs.Cmp.{unsigned_Decides}
 use Rattle.cm_facts.proofs.Numbers.{lt_of_lt_suc}
-use Rattle.cm_facts.proofs.Options.{option_map_none, cond_some_more}
+use Rattle.cm_facts.proofs.Options.{option_map_none, cond_some_more, is_some_true}
 use Rattle.cm_world.specs.declared.row.Row.{Row}
 use Rattle.cm_world.specs.Edits.{drop_first}
 use Rattle.cm_world.specs.Rows.{row_of, at_or_above, some_above, is_below}
 use Rattle.cm_world.specs.RowsInside.{child_behind}
 use Rattle.cm_world.specs.After.{others_than}
 use Rattle.cm_world.specs.Sound.{IncarnationsIncrease, IsOrderly, IsParent}
-use Rattle.cm_world.proofs.trees.Finding.{none_some, row_of-inc}
+use Rattle.cm_world.proofs.trees.Finding.{none_some}
 use Rattle.cm_world.proofs.trees.Climbing.{some_above-step, above_root}
 use Rattle.cm_table.specs.Reading.{follows}
-use Rattle.cm_table.proofs.tree.Rows.{some_is, is_some_by}
-use Rattle.cm_table.proofs.tree.Adding.{missed}
+use Rattle.cm_trees.proofs.rows.Rows.{is_some_by}
+use Rattle.cm_trees.proofs.rows.Adding.{missed}
+use Rattle.cm_trees.proofs.rows.Finding.{later_row}
+use Rattle.cm_trees.proofs.trees.Standing.{nothing_below}
 
 -- the rows without that of an incarnation
 abbrev pub without : ℕ → List Row → List Row
@@ -65,7 +67,7 @@ increasing_at true i next x xs increasing later = increasing.1
 increasing_at false i next x xs increasing later = (
   (
     increasing.0.0,
-    λ s h. let q : (y : Row) × (row_of (without i xs) s ≡ Some y) = some_is (row_of (without i xs) s) h in
+    λ s h. let q : (y : Row) × (row_of (without i xs) s ≡ Some y) = is_some_true (row_of (without i xs) s) h in
         increasing.0.1 s (is_some_by (row_of xs s) q.0 (was_there i next s xs q.0 increasing.1 q.1)),
   ),
   later,
@@ -125,18 +127,13 @@ above_same passes rows next i j s o childless here = above_below (j + 1) passes 
 filter_by : (b c : Bool) (x : Row) (ys zs : List Row) → b ≡ c → ys ≡ zs → cond b (x ∷ ys) ys ≡ cond c (x ∷ zs) zs
 filter_by b c x ys zs same rest = ap (λ t. cond t (x ∷ ys) ys) same ∙ ap (λ l. cond c (x ∷ l) l) rest
 
-behind : (next : ℕ) (x r : Row) (xs : List Row) → IncarnationsIncrease next (x ∷ xs) → row_of xs r.inc ≡ Some r → row_of (x ∷ xs) r.inc ≡ Some r
-behind next x r xs increasing here =
-    let miss : (x.inc == r.inc) ≡ false = ne_eqb x.inc r.inc (ne_of_lt (increasing.0.1 r.inc (is_some_by (row_of xs r.inc) r here))) in
-    rw miss here
-
 -- two tests that agree on rows that live leave the same rows
 filter_same : (p q : Row → Bool) (next : ℕ) (xs : List Row) → IncarnationsIncrease next xs → ((r : Row) → row_of xs r.inc ≡ Some r → p r ≡ q r) → filter p xs ≡ filter q xs
 filter_same p q next [] increasing same = refl
 filter_same p q next (x ∷ xs) increasing same =
     let own : row_of (x ∷ xs) x.inc ≡ Some x = rw ((unsigned_Decides x.inc x.inc).1 refl) refl in
     filter_by (p x) (q x) x (filter p xs) (filter q xs) (same x own)
-    (filter_same p q next xs increasing.1 (λ r here. same r (behind next x r xs increasing here)))
+    (filter_same p q next xs increasing.1 (λ r here. same r (later_row next x r xs increasing here)))
 
 dropped_at : (t : Bool) (q : Row → Bool) (i : ℕ) (x : Row) (xs : List Row) → (x.inc == i) ≡ t → (x.inc ≡ i → q x ≡ false) → filter q (without i xs) ≡ filter q xs → filter q (cond t xs (x ∷ without i xs)) ≡ filter q (x ∷ xs)
 dropped_at true q i x xs own fails later = sym (rw (fails ((unsigned_Decides x.inc i).0 own)) refl)
@@ -154,29 +151,9 @@ others_without rows next top i o childless below =
     (λ r here. ap not (above_same (λ s. s.inc == top) rows next i r.inc r o childless here))
     ∙ filter_dropped (λ r. not (is_below rows top r.inc)) i rows (λ r own. ap (λ n. not (is_below rows top n)) own ∙ ap not below)
 
-nothing_by : (n top i : ℕ) (rows : List Row) (o : Option Row) → row_of rows top ≡ None → row_of rows i ≡ o → ((u : Option ℕ) → at_or_above n (λ r. r.inc == top) rows u ≡ false) → elim o as (λ _. Bool) [ None ↦ false | Some r ↦ (r.inc == top) || at_or_above n (λ s. s.inc == top) rows r.parent ] ≡ false
-nothing_by n top i rows None none e later = refl
-nothing_by n top i rows (Some r) none e later =
-    let other : (r.inc == top) ≡ false = ne_eqb r.inc top (λ same. none_some r (sym none ∙ ap (row_of rows) (sym same ∙ row_of-inc rows i r e) ∙ e)) in
-    rw other (later r.parent)
-
--- nothing is below a row that doesn't live
-nothing_below : (n top : ℕ) (rows : List Row) (u : Option ℕ) → row_of rows top ≡ None → at_or_above n (λ r. r.inc == top) rows u ≡ false
-nothing_below zero top rows u none = refl
-nothing_below (suc n) top rows None none = refl
-nothing_below (suc n) top rows (Some i) none = nothing_by n top i rows (row_of rows i) none refl (λ u. nothing_below n top rows u none)
-
 filter_all : (q : Row → Bool) (xs : List Row) → ((r : Row) → q r ≡ true) → filter q xs ≡ xs
 filter_all q [] all = refl
 filter_all q (x ∷ xs) all = rw (all x) (ap (λ l. x ∷ l) (filter_all q xs all))
 
 pub others_than_none : (rows : List Row) (top : ℕ) → row_of rows top ≡ None → others_than rows top ≡ rows
 others_than_none rows top none = filter_all (λ r. not (is_below rows top r.inc)) rows (λ r. ap not (nothing_below (length rows) top rows (Some r.inc) none))
-
--- ---- the way down to a row without children
-
--- a row that lives is at or below itself
-pub below_itself : (rows : List Row) (next top : ℕ) (r : Row) → IsOrderly rows next → row_of rows top ≡ Some r → IsTrue (is_below rows top top)
-below_itself rows next top r o here =
-    some_above-step (λ s. s.inc == top) rows next top r o here
-    ∙ ap (λ b. b || at_or_above (length rows) (λ s. s.inc == top) rows r.parent) ((unsigned_Decides r.inc top).1 (row_of-inc rows top r here))

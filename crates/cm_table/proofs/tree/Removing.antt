@@ -2,6 +2,7 @@
 use Rattle.std.proofs.Common.{◌≡◌, ℕ, ◌<◌, ◌-◌, ◌==◌, ◌||◌, List, Bool, true, false, true≢false, Option, Some, None, length, refl, sym, ◌∙◌, ap, subst, arith, ne_eqb}
 use Rattle.std.specs.Prelude.{option_map, option_and_then}
 use Rattle.cm_facts.proofs.Booleans.{or_true_second}
+use Rattle.cm_facts.proofs.Options.{is_some_true}
 use Rattle.cm_world.specs.declared.row.Row.{Row}
 use Rattle.cm_world.specs.Rows.{row_of, is_below, at_or_above}
 use Rattle.cm_world.specs.Sound.{IsOrderly, IsParent}
@@ -9,9 +10,10 @@ use Rattle.cm_world.proofs.trees.Finding.{row_of-inc}
 use Rattle.cm_world.proofs.trees.Climbing.{some_above-step, above_root}
 use Rattle.cm_table.specs.declared.slot.Slot.{Slot}
 use Rattle.cm_table.specs.Leaf.{IsWithin, IsLeaf, IsChildOf}
-use Rattle.cm_table.proofs.tree.Rows.{some_is, is_some_by, lives_below}
-use Rattle.cm_table.proofs.tree.Leaves.{without, stays, not_taken, above_same, below_itself}
+use Rattle.cm_trees.proofs.rows.Rows.{is_some_by, lives_below}
+use Rattle.cm_table.proofs.tree.Leaves.{without, stays, not_taken, above_same}
 use Rattle.cm_table.proofs.lists.BinarySearch.{no_some}
+use Rattle.cm_trees.proofs.trees.Standing.{below_self}
 
 -- what is left to remove, over rows
 abbrev pub Goes : List Row → ℕ → Option ℕ → Type 0
@@ -20,7 +22,7 @@ Goes rows top (Some i) = IsWithin rows top i
 
 -- a row that lives is at or below itself
 pub start : (rows : List Row) (next top : ℕ) (r : Row) → IsOrderly rows next → row_of rows top ≡ Some r → IsWithin rows top top
-start rows next top r o here = record { lives = is_some_by (row_of rows top) r here; below = below_itself rows next top r o here }
+start rows next top r o here = record { lives = is_some_by (row_of rows top) r here; below = below_self rows next top r o here }
 
 -- a child of a row at or below another is so too
 pub within_child : (rows : List Row) (next top i k : ℕ) → IsOrderly rows next → IsWithin rows top i → IsChildOf rows i k → IsWithin rows top k
@@ -44,7 +46,7 @@ child_nearer rows next i k o child =
 -- the row that was removed is gone
 pub gone : (rows : List Row) (next i : ℕ) → IsOrderly rows next → row_of (without i rows) i ≡ None
 gone rows next i o = no_some (row_of (without i rows) i) (λ h.
-    let q : (s : Row) × (row_of (without i rows) i ≡ Some s) = some_is (row_of (without i rows) i) h in
+    let q : (s : Row) × (row_of (without i rows) i ≡ Some s) = is_some_true (row_of (without i rows) i) h in
     not_taken i next i rows q.0 o.increasing q.1 refl)
 
 goes_by : (rows : List Row) (next top leaf : ℕ) (r : Row) (u : Option ℕ) → IsOrderly rows next → IsLeaf rows top leaf → row_of rows leaf ≡ Some r → r.parent ≡ u → at_or_above (length rows) (λ s. s.inc == top) rows u ≡ true → Goes (without leaf rows) top u
@@ -61,7 +63,7 @@ goes_by rows next top leaf r (Some p) o l here up above =
 -- where it wasn't the top, removal goes on at its parent
 pub goes_on : (rows : List Row) (next top leaf : ℕ) → IsOrderly rows next → IsLeaf rows top leaf → (leaf ≡ top → ⊥) → Goes (without leaf rows) top (option_and_then (λ r. r.parent) (row_of rows leaf))
 goes_on rows next top leaf o l differ =
-    let q : (r : Row) × (row_of rows leaf ≡ Some r) = some_is (row_of rows leaf) l.lives in
+    let q : (r : Row) × (row_of rows leaf ≡ Some r) = is_some_true (row_of rows leaf) l.lives in
     let other : (q.0.inc == top) ≡ false = ne_eqb q.0.inc top (λ e. differ (sym (row_of-inc rows leaf q.0 q.1) ∙ e)) in
     subst (λ z. Goes (without leaf rows) top (option_and_then (λ r. r.parent) z)) (sym q.1)
     (goes_by rows next top leaf q.0 q.0.parent o l q.1 refl

@@ -1,5 +1,6 @@
 -- A row that gets its declaration and the index of its children, and the children behind all rows.
 use Rattle.std.proofs.Common.{◌≡◌, ℕ, ◌+◌, ◌<◌, List, ◌++◌, false, Some, None, IsTrue, length, refl, sym, ◌∙◌, ap, subst}
+use Rattle.cm_facts.proofs.Options.{is_some_true}
 use Rattle.cm_decl.specs.declared.decl.Decl.{Decl}
 use Rattle.cm_decl.specs.Valid.{IsValid}
 use Rattle.cm_world.specs.declared.row.Row.{Row}
@@ -15,15 +16,15 @@ use Rattle.cm_table.specs.Keys.{EachItem, Increasing}
 use Rattle.cm_table.specs.Slots.{inc_of, rows_in, indexed_by, with_row_by, IsIndexed}
 use Rattle.cm_table.specs.Numbering.{IsBare}
 use Rattle.cm_table.specs.Change.{change_row}
-use Rattle.cm_table.proofs.tree.Rows.{some_is, lives_below, Was, was_before}
-use Rattle.cm_table.proofs.tree.Orderly.{IsKeeping, kept_parent, orderly_changed}
-use Rattle.cm_table.proofs.tree.Growth.{childless}
-use Rattle.cm_table.proofs.tree.Taking.{unresolved_row}
+use Rattle.cm_trees.proofs.rows.Rows.{lives_below, Was, was_before}
+use Rattle.cm_trees.proofs.rows.Orderly.{IsKeeping, kept_parent, orderly_changed}
+use Rattle.cm_trees.proofs.rows.Growth.{childless}
 use Rattle.cm_table.proofs.tree.Changes.{keeping, spares}
 use Rattle.cm_table.proofs.lists.Editing.{edited}
 use Rattle.cm_table.proofs.slots.Rowed.{rows_changed, rows_indexed, rows_append, slots_rise}
 use Rattle.cm_table.proofs.indexes.Children.{NoneHas, each_row, has_by}
 use Rattle.cm_table.proofs.indexes.Indexing.{IsNew, all_changed, all_grown, each_at}
+use Rattle.cm_trees.proofs.rows.Taking.{unresolved_row}
 
 -- what became of the slots
 pub record IsTaken (ss mid put ts news : List Slot) (i : ℕ) (a : List ℕ) (d : Decl) (x : ChildIndex) : Type 0 where
@@ -50,7 +51,7 @@ no_children : (rows : List Row) (i next : ℕ) (a : List ℕ) (d : Decl) → IsO
 no_children rows i next a d o valid lives unresolved =
     let f : Row → Row = change_row (Resolve a d) in
     let k : IsKeeping f = keeping (Resolve a d) valid in
-    let row : (q : Row) × (row_of rows i ≡ Some q) = some_is (row_of rows i) lives in
+    let row : (q : Row) × (row_of rows i ≡ Some q) = is_some_true (row_of rows i) lives in
     let none : row.0.decl ≡ None = unresolved_row (row_of rows i) row.0 row.1 unresolved in
     each_row (λ r. has_parent i r ≡ false) next (changed i f rows) (orderly_changed f k i next rows o).increasing (λ r here. has_by i r r.parent refl (λ up.
     let w : Was f (row_of rows r.inc) r = was_before i f k.inc rows r.inc r here in
@@ -59,7 +60,7 @@ no_children rows i next a d o valid lives unresolved =
 pub all_taken : (ss mid put ts news : List Slot) (i next : ℕ) (a : List ℕ) (d : Decl) (x : ChildIndex) → IsTaken ss mid put ts news i a d x → IsOrderly (rows_in ss) next → IsTrue (is_live (rows_in ss) i) → decl_of (rows_in ss) i ≡ None → IsValid d → IsNew x i next d.children → rows_in news ≡ child_rows i next d.children → EachItem IsBare news → EachItem (IsIndexed (rows_in ss) next) ss → EachItem (IsIndexed (rows_in ts) (next + length d.children)) ts
 all_taken ss mid put ts news i next a d x t o lives unresolved valid new numbered bare all =
     let f : Row → Row = change_row (Resolve a d) in
-    let row : (q : Row) × (row_of (rows_in ss) i ≡ Some q) = some_is (row_of (rows_in ss) i) lives in
+    let row : (q : Row) × (row_of (rows_in ss) i ≡ Some q) = is_some_true (row_of (rows_in ss) i) lives in
     let low : i < next = lives_below (rows_in ss) next i row.0 o.increasing row.1 in
     let moved : EachItem (IsIndexed (changed i f (rows_in ss)) next) mid = subst (EachItem (IsIndexed (changed i f (rows_in ss)) next)) (sym t.changed) (all_changed i f (spares (Resolve a d) tt) (rows_in ss) next ss all) in
     each_at (taken_rows i next a d (rows_in ss)) (rows_in ts) (next + length d.children) (edited inc_of i (indexed_by (Some x)) mid ++ news) ts

@@ -14,7 +14,7 @@ use Rattle.cm_world.specs.Sound.{IsOrderly}
 use Rattle.cm_world.proofs.trees.Finding.{none_some, row_of-inc}
 use Rattle.cm_walk.specs.Ahead.{is_child}
 use Rattle.cm_walk.proofs.descents.Behind.{IsNext, next_of, is_next, behind_more}
-use Rattle.cm_walk.proofs.ways.Standing.{find_least, find_some}
+use Rattle.cm_trees.proofs.trees.Standing.{find_least, find_some}
 
 -- ---- the order of numbers
 

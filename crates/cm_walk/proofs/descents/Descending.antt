@@ -15,7 +15,7 @@ use Rattle.cm_world.specs.Sound.{IsOrderly, IsParent}
 use Rattle.cm_world.proofs.trees.Finding.{row_of-inc, find-passes}
 use Rattle.cm_walk.specs.Ahead.{is_in_set, is_child}
 use Rattle.cm_walk.proofs.descents.Behind.{behind, IsNext, next_of, is_next, behind_more, taken_first, taken_more, taken_all, made_of}
-use Rattle.cm_walk.proofs.ways.Standing.{below_lives, below_self, below_parent, below_cases, find_least, find_some}
+use Rattle.cm_trees.proofs.trees.Standing.{below_lives, below_self, below_parent, below_cases, find_least, find_some}
 use Rattle.cm_walk.proofs.descents.Adding.{cmp_self, cmp_apart, child_row}
 
 -- ---- the set of what is ahead

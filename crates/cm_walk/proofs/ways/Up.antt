@@ -1,5 +1,5 @@
 -- Up the tree.
-use Rattle.std.proofs.Common.{◌≡◌, ℕ, zero, suc, ◌||◌, ◌==◌, List, Bool, true, false, true≢false, not, is_some, Option, Some, None, length, option_map, option_and_then, refl, sym, ◌∙◌, ap, ap₂}
+use Rattle.std.proofs.Common.{◌≡◌, ℕ, ◌||◌, ◌==◌, List, Bool, true, false, true≢false, not, is_some, Option, Some, None, length, option_map, option_and_then, refl, sym, ◌∙◌, ap, ap₂}
 use Rattle.std.specs.Cmp.{unsigned_Decides}
 use Rattle.std.specs.Option.{option_map_or}
 use Rattle.cm_facts.proofs.Numbers.{eq_of_ne}
@@ -11,6 +11,7 @@ use Rattle.cm_world.specs.RowsInside.{facts_of}
 use Rattle.cm_world.specs.Sound.{IsOrderly}
 use Rattle.cm_world.proofs.trees.Climbing.{some_above-step, above_root}
 use Rattle.cm_world.proofs.trees.Finding.{none_some, some_same, row_of-inc}
+use Rattle.cm_trees.proofs.trees.Standing.{nothing_above}
 
 -- the row that facts were told of
 pub record Told (o : Option Row) (f : Facts) : Type 0 where
@@ -26,10 +27,6 @@ pub told : (rows : List Row) (i : ℕ) (f : Facts) → Some f ≡ option_map fac
 told rows i f e = told_by (row_of rows i) f e
 
 -- ---- a mark at a row or above it
-
-pub nothing_above : (n : ℕ) (p : Row → Bool) (rows : List Row) (i : ℕ) → row_of rows i ≡ None → at_or_above n p rows (Some i) ≡ false
-nothing_above zero p rows i none = refl
-nothing_above (suc n) p rows i none = rw (none, at_or_above) refl
 
 pub or_by : (b c : Bool) → b ≡ false → (b || c) ≡ c
 or_by b c e = rw e refl

@@ -1,7 +1,7 @@
 use Rattle.std.proofs.Common.{◌≡◌}
 use Rattle.std.specs.Option.{option_or}
 use Rattle.cm_world.specs.Stopping as spec
-use Rattle.cm_order.proofs.trees.Tops.{outermost_from}
+use Rattle.cm_trees.proofs.trees.Tops.{outermost_from}
 use Rattle.cm_walk.proofs.ways.Monikers.{height}
 use Rattle.cm_order.proofs.above.outermost.Given as goal
 

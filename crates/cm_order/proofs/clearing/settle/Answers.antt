@@ -1,6 +1,6 @@
 use Rattle.std.proofs.Common.{sym, ◌∙◌}
-use Rattle.cm_order.proofs.levels.Gathering.{kid_shut}
 use Rattle.cm_order.proofs.clearing.settle.Goals as goal
+use Rattle.cm_trees.proofs.levels.Shut.{kid_shut}
 
 pub returns : goal.returns
 returns g c =

@@ -1,8 +1,8 @@
 use Rattle.std.proofs.Common.{refl, sym, ◌∙◌, inr}
 use Rattle.cm_facts.proofs.Booleans.{false_iff}
-use Rattle.cm_order.proofs.levels.Gathering.{kid_shut}
 use Rattle.cm_order.proofs.levels.Owning.{kid_gone}
 use Rattle.cm_order.proofs.leading.leads_up.Goals as goal
+use Rattle.cm_trees.proofs.levels.Shut.{kid_shut}
 
 pub returns-then-branch-clause-leads : goal.returns-then-branch-clause-leads
 returns-then-branch-clause-leads g c = kid_gone (g.V.View.rows c.args.view.now) (g.V.View.next_inc c.args.view.now) c.requires.sound c.args.parent c.args.child c.requires.kid (sym c.in_ok-all_shut.ensures ∙ c.if-branch.true)

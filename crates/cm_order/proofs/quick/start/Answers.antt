@@ -1,4 +1,4 @@
-use Rattle.cm_order.proofs.trees.Tops.{top_lives}
+use Rattle.cm_trees.proofs.trees.Tops.{top_lives}
 use Rattle.cm_order.proofs.searches.Reaching.{reached_top, one_more, unknown}
 use Rattle.cm_order.proofs.quick.start.Goals as goal
 

@@ -2,7 +2,7 @@ use Rattle.std.proofs.Common.{◌≡◌, ◌==◌, ◌∙◌, ap, subst, refl}
 use Rattle.std.specs.List.{position}
 use Rattle.cm_world.specs.Edits.{edit_first}
 use Rattle.cm_world.specs.End.{put_outcome}
-use Rattle.cm_table.proofs.lists.Edits.{written, unwritten}
+use Rattle.cm_trees.proofs.rows.Edits.{written, unwritten}
 use Rattle.cm_steps.proofs.pending.settle.Goals as goal
 
 pub returns-in-None : goal.returns-in-None

@@ -1,8 +1,8 @@
 use Rattle.std.proofs.Common.{◌≤◌, ◌==◌, List, None, sym, subst}
+use Rattle.cm_facts.proofs.Options.{is_some_true}
 use Rattle.cm_table.specs.declared.slot.Slot.{Slot}
 use Rattle.cm_table.specs.Keys.{Increasing}
 use Rattle.cm_table.specs.Slots.{inc_of, flat, slot_of, base_of}
-use Rattle.cm_table.proofs.tree.Rows.{some_is}
 use Rattle.cm_table.proofs.lists.EachItem.{each_find}
 use Rattle.cm_table.proofs.slots.Rowed.{increasing_indexed}
 use Rattle.cm_table.proofs.slots.Linking.{IsSwapped, linked, same_said, on_ok, on_err}
@@ -11,7 +11,7 @@ use Rattle.cm_table.proofs.links.link.Goals as goal
 pub put_child-put-requires : goal.put_child-put-requires
 put_child-put-requires c =
     let ss : List Slot = flat c.args.blocks.now.items in
-    let s = some_is (slot_of ss c.args.parent) c.requires.lives in
+    let s = is_some_true (slot_of ss c.args.parent) c.requires.lives in
     subst (λ x. base_of x ≤ c.args.inc) (sym (c.swap_in.ensures.index s.0 s.1))
     (each_find (λ z. base_of z.index ≤ c.args.inc) (λ z. z.row.inc == c.args.parent) ss s.0 c.requires.low s.1)
 

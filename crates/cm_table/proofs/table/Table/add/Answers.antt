@@ -13,7 +13,7 @@ use Rattle.cm_table.specs.Links.{IsLinked, IsSame}
 use Rattle.cm_table.specs.Numbering.{bare_slot}
 use Rattle.cm_table.specs.Change.{with_row}
 use Rattle.cm_table.specs.Wanted.{HasSourcesOf}
-use Rattle.cm_table.proofs.tree.Adding.{orderly_added}
+use Rattle.cm_trees.proofs.rows.Adding.{orderly_added}
 use Rattle.cm_table.proofs.lists.Fitting.{fit_below, fit_within}
 use Rattle.cm_table.proofs.slots.Rowed.{slots_rise, rows_length, rows_same}
 use Rattle.cm_table.proofs.indexes.Indexing.{all_same}

@@ -6,8 +6,8 @@ use Rattle.cm_table.specs.declared.slot.Slot.{Slot}
 use Rattle.cm_table.specs.Tree.{Tree}
 use Rattle.cm_table.specs.Slots.{flat, rows_in, with_row_by, inc_of}
 use Rattle.cm_table.specs.Change.{change_row, with_changed}
-use Rattle.cm_table.proofs.lists.Edits.{length-edit_first}
-use Rattle.cm_table.proofs.tree.Orderly.{orderly_changed}
+use Rattle.cm_trees.proofs.rows.Edits.{length-edit_first}
+use Rattle.cm_trees.proofs.rows.Orderly.{orderly_changed}
 use Rattle.cm_table.proofs.tree.Changes.{keeping, spares}
 use Rattle.cm_table.proofs.lists.Editing.{edited}
 use Rattle.cm_table.proofs.slots.Rowed.{rows_changed, slots_rise}

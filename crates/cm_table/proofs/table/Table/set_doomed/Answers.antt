@@ -10,8 +10,8 @@ use Rattle.cm_table.specs.Links.{IsUnlinked}
 use Rattle.cm_table.specs.Marking.{AreIndexed}
 use Rattle.cm_table.specs.Slots.{flat, rows_in, with_row_by, inc_of}
 use Rattle.cm_table.specs.Change.{with_changed}
-use Rattle.cm_table.proofs.lists.Edits.{length-edit_first}
-use Rattle.cm_table.proofs.tree.Orderly.{orderly_changed}
+use Rattle.cm_trees.proofs.rows.Edits.{length-edit_first}
+use Rattle.cm_trees.proofs.rows.Orderly.{orderly_changed}
 use Rattle.cm_table.proofs.tree.Changes.{keeping}
 use Rattle.cm_table.proofs.lists.Editing.{edited}
 use Rattle.cm_table.proofs.slots.Rowed.{rows_changed, rows_length, unlinked_rows, unlinked_rise}

@@ -15,12 +15,13 @@ use Rattle.cm_table.specs.Change.{change_row, resolved}
 use Rattle.cm_table.proofs.flags.Keeping.{flags_taken}
 use Rattle.cm_table.proofs.monikers.Standing.{if_kept, standing_taken}
 use Rattle.cm_table.proofs.lists.Editing.{edited}
-use Rattle.cm_table.proofs.tree.Taking.{orderly_taken, length-taken}
+use Rattle.cm_table.proofs.tree.Taking.{length-taken}
 use Rattle.cm_table.proofs.slots.Rowed.{rows_length, slots_rise}
 use Rattle.cm_table.proofs.tree.Resolving.{IsTaken, taken_rows, rows_taken, mid_rises, all_taken}
 use Rattle.cm_table.proofs.lists.Fitting.{fit_below, fit_within}
 use Rattle.cm_table.proofs.tree.Wanting.{gives_changed, known_grown}
 use Rattle.cm_table.proofs.table.Table.take.Goals as goal
+use Rattle.cm_trees.proofs.rows.Taking.{orderly_taken}
 
 pub change_in-requires-clause-increasing : goal.change_in-requires-clause-increasing
 change_in-requires-clause-increasing c = slots_rise c.self.inside.next_inc (flat c.self.inside.blocks.items) c.self.invariant.orderly.increasing

@@ -13,7 +13,7 @@ use Rattle.cm_world.specs.Rows.{row_of}
 use Rattle.cm_world.specs.Sound.{IncarnationsIncrease}
 use Rattle.cm_world.proofs.trees.Finding.{none_some, some_same, find-passes}
 use Rattle.cm_world.proofs.trees.Walks.{find-lives}
-use Rattle.cm_order.proofs.trees.Trees.{or_left, or_right}
+use Rattle.cm_trees.proofs.trees.Trees.{or_left, or_right}
 
 -- one that passes
 pub any_some : {A : Type 0} (q : A → Bool) (xs : List A) → IsTrue (list_any q xs) → (x : A) × IsTrue (q x)

@@ -6,7 +6,7 @@ use Rattle.cm_world.specs.declared.row.Row.{Row}
 use Rattle.cm_world.specs.Rows.{row_of}
 use Rattle.cm_world.specs.End.{changed}
 use Rattle.cm_world.specs.Sound.{IsOrderly, IsParent}
-use Rattle.cm_table.proofs.tree.Rows.{Was, was_before, Becomes, becomes_after, increasing_changed}
+use Rattle.cm_trees.proofs.rows.Rows.{Was, was_before, Becomes, becomes_after, increasing_changed}
 
 -- a change that keeps a row's place, and brings no invalid declaration
 pub record IsKeeping (f : Row → Row) : Type 0 where

@@ -11,7 +11,7 @@ use Rattle.cm_decl.specs.declared.node.Node.{Node}
 use Rattle.cm_decl.specs.declared.node.Node.TheVariants.{Own, Child}
 use Rattle.cm_world.specs.declared.row.Row.{Row}
 use Rattle.cm_world.specs.Rows.{row_of}
-use Rattle.cm_order.specs.Kids.{kids}
+use Rattle.cm_trees.specs.Kids.{kids}
 
 -- the node of a child row; none for a doomed one
 abbrev pub child_node : Row → Option Node

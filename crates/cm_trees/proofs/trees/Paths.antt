@@ -4,8 +4,8 @@ use Rattle.cm_world.specs.declared.row.Row.{Row}
 use Rattle.cm_world.specs.Rows.{row_of, is_below}
 use Rattle.cm_world.specs.Sound.{IsOrderly, IsParent}
 use Rattle.cm_world.specs.Stopping.{IsFree, line_up_to, AllFree}
-use Rattle.cm_order.specs.Kids.{IsKid}
-use Rattle.cm_order.proofs.trees.Trees.{climb, line_first, line_more, below_self, below_up, below_cases, below_lives, below_least, below_trans, kid_below, parent_lives, not_true}
+use Rattle.cm_trees.specs.Kids.{IsKid}
+use Rattle.cm_trees.proofs.trees.Trees.{climb, line_first, line_more, below_self, below_up, below_cases, below_lives, below_least, below_trans, kid_below, parent_lives, not_true}
 
 -- all levels up to a child and the level above it are all levels up to its parent
 pub record IsPath (rows : List Row) (p c y : ℕ) : Type 0 where

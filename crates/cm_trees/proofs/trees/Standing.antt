@@ -1,5 +1,5 @@
 -- What stands below what in an orderly tree, and which row is the first that passes a test.
-use Rattle.std.proofs.Common.{◌≡◌, ℕ, ◌<◌, ◌≤◌, List, [], ◌∷◌, Bool, true, false, cond, ◌==◌, true≢false, Option, Some, None, is_some, IsTrue, find, length, refl, sym, ◌∙◌, ap, inl, inr, ◌⊎◌, arith}
+use Rattle.std.proofs.Common.{◌≡◌, ℕ, ◌<◌, ◌≤◌, List, [], ◌∷◌, Bool, true, false, cond, ◌==◌, true≢false, Option, Some, None, is_some, IsTrue, find, length, refl, sym, ◌∙◌, ap, inl, inr, ◌⊎◌, arith, zero, suc, ne_eqb, ◌||◌}
 use Rattle.std.specs.Cmp.{unsigned_Decides}
 use Rattle.std.proofs.lemmas.Bool.{or_left, or_right, or_cases}
 use Rattle.cm_world.specs.declared.row.Row.{Row}
@@ -7,9 +7,25 @@ use Rattle.cm_world.specs.Rows.{row_of, at_or_above, is_below}
 use Rattle.cm_world.specs.Sound.{IncarnationsIncrease, IsOrderly}
 use Rattle.cm_world.proofs.trees.Climbing.{some_above-step, above_root}
 use Rattle.cm_world.proofs.trees.Finding.{row_of-inc, none_some, some_same}
-use Rattle.cm_walk.proofs.ways.Up.{nothing_above}
 
 -- ---- below
+
+-- where a row isn't there nothing is above it
+pub nothing_above : (n : ℕ) (p : Row → Bool) (rows : List Row) (i : ℕ) → row_of rows i ≡ None → at_or_above n p rows (Some i) ≡ false
+nothing_above zero p rows i none = refl
+nothing_above (suc n) p rows i none = rw (none, at_or_above) refl
+
+pub nothing_by : (n top i : ℕ) (rows : List Row) (o : Option Row) → row_of rows top ≡ None → row_of rows i ≡ o → ((u : Option ℕ) → at_or_above n (λ r. r.inc == top) rows u ≡ false) → elim o as (λ _. Bool) [ None ↦ false | Some r ↦ (r.inc == top) || at_or_above n (λ s. s.inc == top) rows r.parent ] ≡ false
+nothing_by n top i rows None none e later = refl
+nothing_by n top i rows (Some r) none e later =
+    let other : (r.inc == top) ≡ false = ne_eqb r.inc top (λ same. none_some r (sym none ∙ ap (row_of rows) (sym same ∙ row_of-inc rows i r e) ∙ e)) in
+    rw other (later r.parent)
+
+-- nothing is below a row that doesn't live
+pub nothing_below : (n top : ℕ) (rows : List Row) (u : Option ℕ) → row_of rows top ≡ None → at_or_above n (λ r. r.inc == top) rows u ≡ false
+nothing_below zero top rows u none = refl
+nothing_below (suc n) top rows None none = refl
+nothing_below (suc n) top rows (Some i) none = nothing_by n top i rows (row_of rows i) none refl (λ u. nothing_below n top rows u none)
 
 lives_by : (rows : List Row) (top i : ℕ) (o : Option Row) → row_of rows i ≡ o → IsTrue (is_below rows top i) → (r : Row) × (row_of rows i ≡ Some r)
 lives_by rows top i None e below = absurd (true≢false (sym below ∙ nothing_above (length rows) (λ r. r.inc == top) rows i e))
@@ -45,7 +61,7 @@ below_cases rows next top i r orderly lives below =
 
 -- ---- the first row that passes
 
-least_by : (a b : Bool) (q : Row → Bool) (x : Row) (xs : List Row) (next i : ℕ) (r s : Row) → q x ≡ a → (x.inc == i) ≡ b → IncarnationsIncrease next (x ∷ xs) → (find q xs ≡ Some r → row_of xs i ≡ Some s → r.inc ≤ i) → cond a (Some x) (find q xs) ≡ Some r → cond b (Some x) (row_of xs i) ≡ Some s → IsTrue (q s) → r.inc ≤ i
+pub least_by : (a b : Bool) (q : Row → Bool) (x : Row) (xs : List Row) (next i : ℕ) (r s : Row) → q x ≡ a → (x.inc == i) ≡ b → IncarnationsIncrease next (x ∷ xs) → (find q xs ≡ Some r → row_of xs i ≡ Some s → r.inc ≤ i) → cond a (Some x) (find q xs) ≡ Some r → cond b (Some x) (row_of xs i) ≡ Some s → IsTrue (q s) → r.inc ≤ i
 least_by true true q x xs next i r s here at increasing later found lives passes =
     let own : x.inc ≡ i = (unsigned_Decides x.inc i).0 at in
     let same : x.inc ≡ r.inc = ap (λ z. z.inc) (some_same x r found) in

@@ -9,11 +9,11 @@ use Rattle.cm_decl.proofs.Sameness.{never}
 use Rattle.cm_world.specs.declared.row.Row.{Row}
 use Rattle.cm_world.specs.Rows.{row_of, is_below, is_subtree_shut, line_from, line_of}
 use Rattle.cm_world.specs.Sound.{IncarnationsIncrease, IsOrderly, IsParent}
-use Rattle.cm_order.specs.Kids.{IsKid}
+use Rattle.cm_trees.specs.Kids.{IsKid}
 use Rattle.cm_world.proofs.trees.Climbing.{line_of-step, line_root}
 use Rattle.cm_world.proofs.trees.Finding.{row_of-inc, find-all, find-passes}
 use Rattle.cm_world.proofs.trees.Walks.{find-lives, below_next}
-use Rattle.cm_walk.proofs.ways.Standing as standing
+use Rattle.cm_trees.proofs.trees.Standing as standing
 
 -- ---- tests
 

@@ -14,8 +14,8 @@ use Rattle.cm_world.specs.Rows.{row_of, is_resolved, child_of}
 use Rattle.cm_world.specs.World.{new_row}
 use Rattle.cm_world.specs.Sound.{IsOrderly}
 use Rattle.cm_world.proofs.trees.Finding.{some_same, none_some}
-use Rattle.cm_table.specs.Reading.{is_there}
-use Rattle.cm_table.proofs.tree.Growth.{Joins, orderly_push}
+use Rattle.cm_trees.proofs.rows.Growth.{Joins, orderly_push}
+use Rattle.cm_trees.specs.Reading.{is_there}
 
 pub resolved_by : (o : Option Row) → is_some (option_and_then (λ r. r.decl) o) ≡ true → (q : Row) × (o ≡ Some q) × IsSome q.decl
 resolved_by None h = absurd (true≢false (sym h))

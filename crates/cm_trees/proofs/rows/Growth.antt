@@ -10,8 +10,8 @@ use Rattle.cm_world.specs.Rows.{row_of}
 use Rattle.cm_world.specs.End.{child_row, child_rows}
 use Rattle.cm_world.specs.Sound.{IsOrderly, IsParent}
 use Rattle.cm_world.proofs.trees.Finding.{some_same, none_some}
-use Rattle.cm_table.proofs.tree.Rows.{lives_left, lives_pushed, lives_below, increasing_push}
-use Rattle.cm_table.proofs.tree.Siblings.{IsFresh, AreApart}
+use Rattle.cm_trees.proofs.rows.Rows.{lives_left, lives_pushed, lives_below, increasing_push}
+use Rattle.cm_trees.proofs.rows.Siblings.{IsFresh, AreApart}
 
 -- ---- one row more
 

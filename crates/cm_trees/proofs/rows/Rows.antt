@@ -1,17 +1,13 @@
 -- The row of an incarnation, in rows that were changed and in rows with one more.
 use Rattle.std.proofs.Common.{◌≡◌, ℕ, ◌+◌, ◌<◌, List, [], ◌∷◌, ◌++◌, Bool, true, false, cond, ◌==◌, true≢false, Option, Some, None, IsSome, is_some, refl, sym, ap, subst, arith, inl, inr, ◌⊎◌}
 use Rattle.std.specs.Cmp.{unsigned_Decides}
-use Rattle.cm_facts.proofs.Options.{cond_some_more}
+use Rattle.cm_facts.proofs.Options.{cond_some_more, is_some_true}
 use Rattle.cm_world.specs.declared.row.Row.{Row}
 use Rattle.cm_world.specs.Rows.{row_of}
 use Rattle.cm_world.specs.End.{changed}
 use Rattle.cm_world.specs.Sound.{IncarnationsIncrease}
 use Rattle.cm_world.proofs.trees.Finding.{some_same, none_some}
 pub use Rattle.cm_world.proofs.trees.Walks.{below_next as lives_below}
-
-pub some_is : {A : Type 0} (o : Option A) → IsSome o → (x : A) × (o ≡ Some x)
-some_is None h = absurd (true≢false (sym h))
-some_is (Some x) h = (x, refl)
 
 pub is_some_by : {A : Type 0} (o : Option A) (x : A) → o ≡ Some x → IsSome o
 is_some_by o x e = ap is_some e
@@ -107,7 +103,7 @@ increasing_push (x ∷ xs) next r number increasing =
     let low : x.inc < next = increasing.0.0 in (
       (
         omega arith,
-        λ s h. let q : (y : Row) × (row_of (xs ++ r ∷ []) s ≡ Some y) = some_is (row_of (xs ++ r ∷ []) s) h in
+        λ s h. let q : (y : Row) × (row_of (xs ++ r ∷ []) s ≡ Some y) = is_some_true (row_of (xs ++ r ∷ []) s) h in
             later_low next x.inc s xs r (row_of xs s) number low (increasing.0.1 s) q.0 (lives_pushed xs r q.0 s q.1),
       ),
       increasing_push xs next r number increasing.1,
@@ -119,7 +115,7 @@ increasing_at true i next f keeps x xs increasing later =
 increasing_at false i next f keeps x xs increasing later = (
   (
     increasing.0.0,
-    λ s h. let q : (y : Row) × (row_of (changed i f xs) s ≡ Some y) = some_is (row_of (changed i f xs) s) h in
+    λ s h. let q : (y : Row) × (row_of (changed i f xs) s ≡ Some y) = is_some_true (row_of (changed i f xs) s) h in
         let w : Was f (row_of xs s) q.0 = was_before i f keeps xs s q.0 q.1 in
         increasing.0.1 s (is_some_by (row_of xs s) w.row w.was),
   ),

@@ -7,11 +7,10 @@ use Rattle.cm_decl.specs.Reach.{DependencyPath, Reaches, NoCycle}
 use Rattle.cm_decl.specs.RealmGraph.{RealmGraph, Strong, IsImplied, Directly}
 use Rattle.cm_decl.proofs.cycles.Reaching.{Reaches-trans}
 use Rattle.cm_decl.proofs.Sameness.{never}
-use Rattle.cm_deps.proofs.loops.Ways.{DependencyPath-snoc}
 use Rattle.cm_world.specs.declared.row.Row.{Row}
 use Rattle.cm_world.specs.Rows.{row_of}
 use Rattle.cm_world.proofs.trees.Finding.{none_some, some_same, row_of-inc}
-use Rattle.cm_order.proofs.trees.Trees.{not_true}
+use Rattle.cm_trees.proofs.trees.Trees.{not_true}
 
 -- ---- implied edges make no cycle
 
@@ -121,7 +120,7 @@ unseen_less rows seen x r lives new =
 module _ (rows : List Row) (On : ℕ → ℕ → Type 0) (there : (x y : ℕ) → On x y → (r : Row) × (row_of rows y ≡ Some r)) (acyclic : NoCycle On) where
   reach_more : (s x y : ℕ) → (s ≡ x) ⊎ Reaches On s x → On x y → Reaches On s y
   reach_more s x y (inl same) on = ([], subst (λ v. On v y) (sym same) on)
-  reach_more s x y (inr way) on = (_, DependencyPath-snoc On s way.0 x y way.1 on)
+  reach_more s x y (inr way) on = Reaches-trans On s x y way ([], on)
 
   seen_more : (seen : List ℕ) (x y : ℕ) → ((s : ℕ) → IsTrue (list_any (λ i. i == s) seen) → Reaches On s x) → On x y → (s : ℕ) → IsTrue (list_any (λ i. i == s) (x ∷ seen)) → Reaches On s y
   seen_more seen x y reach on s is = elim (or_cases (x == s) (list_any (λ i. i == s) seen) is) [

@@ -17,15 +17,15 @@ use Rattle.cm_world.specs.Stopping.{is_wholly_shut, IsFree, outermost, line_up_t
 use Rattle.cm_world.proofs.trees.Finding.{none_some}
 use Rattle.cm_world.proofs.trees.Levels.{node_row}
 use Rattle.cm_world.proofs.trees.Walks.{below_next}
-use Rattle.cm_order.specs.Kids.{IsKid}
-use Rattle.cm_order.specs.Laws.{CanStop}
-use Rattle.cm_order.specs.LawsInside.{HasNoDeadEnd}
-use Rattle.cm_order.proofs.trees.Trees.{below_self, below_kid, below_trans, kid_below, kid_higher, kid_within, parent_lives, shut_each, shut_all, and_pair, or_left, eq_some}
-use Rattle.cm_order.proofs.trees.Tops.{IsTop, top_of, top_below, top_lives, no_top}
-use Rattle.cm_order.proofs.levels.Gathering.{own_shut, kid_shut}
-use Rattle.cm_order.proofs.trees.Paths.{path, path_top}
-use Rattle.cm_order.proofs.names.Edges.{kid_by, kid_node, node_kid, depends_node}
-use Rattle.cm_order.proofs.names.Graphs.{direct_acyclic, follow, search_below, reach_or_not}
+use Rattle.cm_trees.specs.Kids.{IsKid}
+use Rattle.cm_trees.specs.Laws.{CanStop}
+use Rattle.cm_trees.specs.LawsInside.{HasNoDeadEnd}
+use Rattle.cm_trees.proofs.trees.Trees.{below_self, below_kid, below_trans, kid_below, kid_higher, kid_within, parent_lives, shut_each, shut_all, and_pair, or_left, eq_some}
+use Rattle.cm_trees.proofs.trees.Tops.{IsTop, top_of, top_below, top_lives, no_top}
+use Rattle.cm_trees.proofs.trees.Paths.{path, path_top}
+use Rattle.cm_trees.proofs.names.Graphs.{direct_acyclic, follow, search_below, reach_or_not}
+use Rattle.cm_trees.proofs.levels.Shut.{own_shut, kid_shut}
+use Rattle.cm_trees.proofs.levels.Nodes.{kid_node, kid_by, node_kid, depends_node}
 
 -- a row at or below this one that isn't shut and is free at each level up to it
 pub record CanUnder (rows : List Row) (c : ℕ) : Type 0 where

@@ -11,7 +11,7 @@ use Rattle.cm_world.specs.Sound.{IsOrderly}
 use Rattle.cm_world.specs.Stopping.{outermost}
 use Rattle.cm_world.proofs.trees.Climbing.{some_above-step, line_of-step, above_root, line_root}
 use Rattle.cm_world.proofs.trees.Finding.{none_some, some_same}
-use Rattle.cm_order.proofs.trees.Trees.{climb, below_self, below_up, below_cases, below_lives, or_left, or_right}
+use Rattle.cm_trees.proofs.trees.Trees.{climb, below_self, below_up, below_cases, below_lives, or_left, or_right}
 
 -- the outermost closing row on a way up
 abbrev pub outermost_from : List Row → Option ℕ → Option ℕ

@@ -23,22 +23,22 @@ use Rattle.cm_world.specs.RowsInside.{is_behind}
 use Rattle.cm_world.specs.Sound.{IsOrderly, IsSound, HasStatic}
 use Rattle.cm_world.proofs.trees.Finding.{none_some, some_same, find-passes}
 use Rattle.cm_world.proofs.trees.Walks.{find-lives}
-use Rattle.cm_order.specs.Kids.{IsKid}
-use Rattle.cm_order.specs.Names.{child_node, node_in, in_collection, dynamic_child, dynamic_children}
-use Rattle.cm_order.proofs.trees.Trees.{kid_higher, eq_some, or_left, or_right, and_pair, not_true, not_flip}
-use Rattle.cm_order.proofs.levels.Kids.{none_found}
-use Rattle.cm_order.proofs.names.Listing.{any_some, any_flat, any_row, row_any, any_counts, counts_any, flat_flat, only_row}
+use Rattle.cm_trees.specs.Kids.{IsKid}
+use Rattle.cm_trees.specs.Names.{child_node, node_in, in_collection, dynamic_child, dynamic_children}
+use Rattle.cm_trees.proofs.trees.Trees.{kid_higher, eq_some, or_left, or_right, and_pair, not_true, not_flip}
+use Rattle.cm_trees.proofs.levels.Kids.{none_found}
+use Rattle.cm_trees.proofs.names.Listing.{any_some, any_flat, any_row, row_any, any_counts, counts_any, flat_flat, only_row}
 
 -- ---- names
 
 pub child_refl : (c : ChildName) → IsTrue (same_child c c)
 child_refl c = same_node-refl (Child c)
 
-some_name : (o : Option ChildName) (c : ChildName) → IsTrue (option_eq same_child o (Some c)) → o ≡ Some c
+pub some_name : (o : Option ChildName) (c : ChildName) → IsTrue (option_eq same_child o (Some c)) → o ≡ Some c
 some_name None c h = never h
 some_name (Some b) c h = ap Some (same_child_exact b c h)
 
-name_some : (o : Option ChildName) (c : ChildName) → o ≡ Some c → IsTrue (option_eq same_child o (Some c))
+pub name_some : (o : Option ChildName) (c : ChildName) → o ≡ Some c → IsTrue (option_eq same_child o (Some c))
 name_some o c e = subst (λ z. IsTrue (option_eq same_child z (Some c))) (sym e) (child_refl c)
 
 static_same : (c : ChildName) → c.coll ≡ None → c ≡ static_name c.name

@@ -10,8 +10,8 @@ use Rattle.cm_world.specs.RowsInside.{is_behind, child_behind}
 use Rattle.cm_world.specs.Sound.{IncarnationsIncrease, IsOrderly}
 use Rattle.cm_world.proofs.trees.Finding.{none_some, some_same, row_of-inc, find-passes}
 use Rattle.cm_world.proofs.trees.Walks.{find-lives}
-use Rattle.cm_order.specs.Kids.{IsKid}
-use Rattle.cm_order.proofs.trees.Trees.{eq_some, and_pair}
+use Rattle.cm_trees.specs.Kids.{IsKid}
+use Rattle.cm_trees.proofs.trees.Trees.{eq_some, and_pair}
 
 -- the same incarnation, or one behind it
 same_or_later : (c i : ℕ) → c ≤ i → (i ≡ c) ⊎ IsTrue (nat_lt c i)

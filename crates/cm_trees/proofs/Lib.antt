@@ -1,0 +1,4 @@
+pub mod rows
+pub mod names
+pub mod levels
+pub mod trees

@@ -1,0 +1,9 @@
+pub mod Adding
+pub mod Dooming
+pub mod Edits
+pub mod Finding
+pub mod Growth
+pub mod Orderly
+pub mod Rows
+pub mod Siblings
+pub mod Taking
