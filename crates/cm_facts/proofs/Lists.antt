@@ -16,7 +16,7 @@ length_one_more xs y n long = length_push xs y ∙ ap (λ k. k + 1) long
 
 -- Lists of which the same list is made are equally long.
 pub length_by_map : {A B C : Type 0} (f : A → C) (g : B → C) (xs : List A) (ys : List B)
-  → map f xs ≡ map g ys → length xs ≡ length ys
+    → map f xs ≡ map g ys → length xs ≡ length ys
 length_by_map f g xs ys is = sym (length-map xs f) ∙ ap (λ (l : List _). length l) is ∙ length-map ys g
 
 -- Equal lists have equal first items.
@@ -36,9 +36,9 @@ slice_get_last (y ∷ xs) x = slice_get_last xs x
 
 -- As many bytes as were read over a list of the same length.
 pub take_over : {A : Type 0} (xs ys : List A) (n : ℕ)
-  → n ≡ length xs → length ys ≡ length xs → take n (ys ++ drop (length ys) xs) ≡ ys
+    → n ≡ length xs → length ys ≡ length xs → take n (ys ++ drop (length ys) xs) ≡ ys
 take_over xs ys n is_n long = ap (λ (l : List _). take n (ys ++ l)) (drop_all (length ys) xs (omega (arith, long)))
-  ∙ ap (take n) (append-nil ys) ∙ take_all n ys (omega (arith, is_n, long))
+    ∙ ap (take n) (append-nil ys) ∙ take_all n ys (omega (arith, is_n, long))
 
 -- Two functions that agree make the same list.
 pub map_agree : {A B : Type 0} (f g : A → B) → ((x : A) → f x ≡ g x) → (xs : List A) → map f xs ≡ map g xs
@@ -61,7 +61,7 @@ find_last p [] y none hit = ap (λ b. cond b (Some y) None) hit
 find_last {A} p (x ∷ xs) y none hit = by (p x) none (find_last p xs y)
   where
     by : (t : Bool) → cond t (Some x) (find p xs) ≡ None → (find p xs ≡ None → p y ≡ true → find p (xs ++ y ∷ []) ≡ Some y)
-      → cond t (Some x) (find p (xs ++ y ∷ [])) ≡ Some y
+        → cond t (Some x) (find p (xs ++ y ∷ [])) ≡ Some y
     by true e later = absurd (cc e)
     by false e later = later e hit
 
@@ -75,10 +75,10 @@ All_one P x holds = All-cons P x [] holds (All-nil P)
 
 -- What holds of all by what holds of what they are made of.
 pub All_map : {A B : Type 0} (P : A → Type 0) (Q : B → Type 0) (f : A → B) (xs : List A)
-  → ((x : A) → P x → Q (f x)) → All P xs → All Q (map f xs)
+    → ((x : A) → P x → Q (f x)) → All P xs → All Q (map f xs)
 All_map P Q f [] each all = All-nil Q
 All_map P Q f (x ∷ xs) each all = All-cons Q (f x) (map f xs) (each x (All-head P x xs all))
-  (All_map P Q f xs each (All-tail P x xs all))
+    (All_map P Q f xs each (All-tail P x xs all))
 
 -- An option before a list, of both of which it holds.
 pub All_cons_option : {B : Type 0} (Q : B → Type 0) (o : Option B) (ys : List B) → IfSome o Q → All Q ys → All Q (cons_option o ys)
@@ -87,10 +87,10 @@ All_cons_option Q (Some y) ys here behind = All-cons Q y ys here behind
 
 -- What holds of all that is made of some of the items.
 pub All_filter_map : {A B : Type 0} (P : A → Type 0) (Q : B → Type 0) (f : A → Option B) (xs : List A)
-  → ((x : A) → P x → IfSome (f x) Q) → All P xs → All Q (filter_map f xs)
+    → ((x : A) → P x → IfSome (f x) Q) → All P xs → All Q (filter_map f xs)
 All_filter_map P Q f [] each all = All-nil Q
 All_filter_map P Q f (x ∷ xs) each all = All_cons_option Q (f x) (filter_map f xs) (each x (All-head P x xs all))
-  (All_filter_map P Q f xs each (All-tail P x xs all))
+    (All_filter_map P Q f xs each (All-tail P x xs all))
 
 -- A list of none has nothing.
 pub Contains_none : {A : Type 0} (x : A) → Contains [] x → ⊥

@@ -61,13 +61,13 @@ cond_is_some false x o e = e
 
 -- What holds of the value before a test and of any behind it holds of the value that is found.
 pub cond_some_holds : {A : Type 0} (P : A → Type 0) (t : Bool) (x y : A) (o : Option A)
-  → P x → (o ≡ Some y → P y) → cond t (Some x) o ≡ Some y → P y
+    → P x → (o ≡ Some y → P y) → cond t (Some x) o ≡ Some y → P y
 cond_some_holds P true x y o here behind e = subst P (same_Some x y e) here
 cond_some_holds P false x y o here behind e = behind e
 
 -- What is found behind the same test, in options of which the second gives what the first does.
 pub cond_some_more : {A : Type 0} (t : Bool) (x y : A) (o more : Option A)
-  → (o ≡ Some y → more ≡ Some y) → cond t (Some x) o ≡ Some y → cond t (Some x) more ≡ Some y
+    → (o ≡ Some y → more ≡ Some y) → cond t (Some x) o ≡ Some y → cond t (Some x) more ≡ Some y
 cond_some_more true x y o more behind e = e
 cond_some_more false x y o more behind e = behind e
 

@@ -431,7 +431,6 @@ module _ (f : Frame) (c : ℕ) where
 -- ---- all lanes
 
 module _ (P : AnsweredLine → Type 0) where
-
   by_lanes : (xs : List AnsweredLine) → All (λ (a : AnsweredLine). a.line.lane < 16) xs → ((c : ℕ) → c < 16 → All P (answers_of c xs)) → All P xs
   by_lanes [] few each = All-nil P
   by_lanes (a ∷ xs) few each =

@@ -25,7 +25,6 @@ use Rattle.cm_trees.proofs.names.Listing.{row_later}
 -- ---- rows that are left
 
 module _ (t : Row → Bool) where
-
   -- a row that is left was there
   pub left_lives : (rows : List Row) (next x : ℕ) (r : Row) → IncarnationsIncrease next rows → row_of (filter t rows) x ≡ Some r → row_of rows x ≡ Some r
   left_lives [] next x r increasing lives = absurd (none_some r lives)

@@ -77,7 +77,6 @@ abbrev pub is_unshut : List Row → Option ℕ → Bool
 is_unshut rows o = option_map_or (λ r. not r.shut) (option_and_then (row_of rows) o) false
 
 module _ (rows : List Row) (next : ℕ) (orderly : IsOrderly rows next) where
-
   row_shut : (i : ℕ) (r : Row) → row_of rows i ≡ Some r → option_map_or (λ r. not r.shut) (row_of rows i) false ≡ false → IsTrue r.shut
   row_shut i r lives shut = not-false r.shut (sym (ap (λ o. option_map_or (λ r. not r.shut) o false) lives) ∙ shut)
 
