@@ -28,7 +28,7 @@ def names_of(path):
     found = {it.name for it in house.definitions_in(text, "", "")}
     found |= set(re.findall(r"^\s+(?:pub )?([^\s:(){}]+)(?: [^\n]*?)? : ", text, re.M))
     found |= set(re.findall(r"^\s+(?:pub )?([^\s:(){}|]+)(?: \([^\n]*)?$", text, re.M))
-    for _, names, _, _, _ in house.imports_in(text):
+    for _, names, _, _, _ in house.imports_in("\n".join(re.findall(r"(?m)^\s*pub (use [^\n]*)", text))):
         found |= set(names)
     return found
 
