@@ -40,7 +40,7 @@ use Rattle.cm_turn.proofs.Histories.{starts-refl, starts-trans}
 
 pub tries_grow : (f : Frame) (c : ℕ) (e : Event) {a b : List Entry} {end : Result Reply Refusal} → RetriesEvent f c e a b end → StartsWith b a
 tries_grow f c e (decided asks is) = (makes-own c _ _ _ _ asks.made).0
-tries_grow f c e (needs asks is act fine again) = starts-trans _ _ _ (starts-trans _ _ _ (acts-close f c act).grows (tries_grow f c e again)) (makes-own c _ _ _ _ asks.made).0
+tries_grow f c e (needs asks is act fine again) = starts-trans _ _ _ (starts-trans _ _ _ (tries_grow f c e again) (acts-close f c act).grows) (makes-own c _ _ _ _ asks.made).0
 tries_grow f c e (failed asks is act fails) = starts-trans _ _ _ (acts-close f c act).grows (makes-own c _ _ _ _ asks.made).0
 tries_grow f c e (cut_try {h₀ = a} {h₁ = b} {x = x} is) = (cut-later f c a b e x is).grows
 
