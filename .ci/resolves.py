@@ -5,9 +5,10 @@
 
 Of each `use Rattle.CRATE...` of a crate of this repository the module has to be a file, a type or a function,
 and each name that it takes a definition, a constructor, a field, a variant or a constant there. A name behind
-a module's alias has to stand in that module. A file of lemmas that another crate takes from has to be `pub
-mod` there, in each folder. It proves nothing, and takes seconds, so it tells what a renaming or a moved
-definition forgot before a proof begins. What leads nowhere is printed, with status 1.
+a module's alias has to stand in that module, and a lemma that a source names (`crate::proofs::..`) in its
+file. A file of lemmas that another crate takes from has to be `pub mod` there, in each folder. It proves
+nothing, and takes seconds, so it tells what a renaming or a moved definition forgot before a proof begins.
+What leads nowhere is printed, with status 1.
 """
 
 import pathlib
@@ -79,6 +80,13 @@ class Places:
             node, folder = folder / f"{part}.antt", folder / part
         return []
 
+    def lost_in_source(self, crate, text):
+        """The lemmas that a source names for the search and that don't stand in their file."""
+        said = re.findall(r"\bcrate::proofs::([\w:]+)::([\w\-]+)", text)
+        places = [((crate, f"proofs.{path.replace('::', '.')}"), it) for path, it in said]
+        return [it for place, it in places if it not in self.modules.get(place, ())
+                and f"ruleset {it} " not in self.texts.get(place, "")]
+
     def lost_by_alias(self, text, parts, alias):
         """The names behind a module's alias that don't stand in the module."""
         there = self.texts.get((parts[1], ".".join(parts[2:])))
@@ -105,6 +113,9 @@ def main():
             continue
         text = path.read_text(encoding="utf-8")
         bare = house.without_comments(text, path.suffix == ".antt")
+        crate = path.relative_to(TOP).parts[1]
+        lost += [f"{path.relative_to(TOP)}: nothing is called {it}"
+                 for it in places.lost_in_source(crate, bare)]
         for there, names, alias, _, _ in house.imports_in(text):
             parts = there.split(".")
             if parts[0] != "Rattle" or len(parts) < 3 or parts[1] not in places.crates:
