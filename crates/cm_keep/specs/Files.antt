@@ -4,6 +4,8 @@ use Rattle.std.specs.Prelude.{◌≡◌, ◌≢◌, ℕ, List, [], ◌++◌, cod
 use Rattle.std.specs.Io.KnownBytes.{Appends}
 use Rattle.cm_world.specs.declared.reply.Entry.{Entry}
 use Rattle.cm_reply.specs.Lists.{TextBytes}
+use Rattle.cm_keep.specs.declared.service.Unkept.{Unkept}
+use Rattle.cm_keep.specs.declared.service.Unkept.TheVariants as unkept
 
 -- the name of the new file of a journal: its place, the number of the process and `.new`, with dots between
 abbrev pub beside_name : TextBytes → ℕ → TextBytes
@@ -28,3 +30,20 @@ NeverBegan status history = (status ≢ 0) × (history ≡ [])
 -- a new file of this name was made, and it was asked for that nothing has that name any more
 abbrev pub IsTried : {D : Type 0} → (TextBytes → D → Type 0) → (TextBytes → Type 0) → TextBytes → Type 0
 IsTried {D} created unnamed beside = (file : D) × created beside file × unnamed beside
+
+-- ---- what is told where none stands there
+
+-- the line tells of a fault with the journal at this path, and more, as why
+abbrev pub IsFaultLine : TextBytes → TextBytes → Type 0
+IsFaultLine place line =
+    (told : TextBytes) × (line ≡ codes "journal fault: " ++ (place ++ (told ++ codes "\n")))
+
+-- the line tells at its end under which name the whole journal stands, which couldn't get its own
+abbrev pub TellsWhere : TextBytes → TextBytes → TextBytes → Type 0
+TellsWhere place beside line = (why : TextBytes) × (line
+    ≡ codes "journal fault: " ++ (place ++ ((why ++ (codes "; it stands in " ++ beside)) ++ codes "\n")))
+
+-- why there is no journal at this path: lack of memory, or what such a line says
+abbrev pub IsTold : TextBytes → Unkept → Type 0
+IsTold place unkept.Memory = Unit {0}
+IsTold place (unkept.Said line) = IsFaultLine place line

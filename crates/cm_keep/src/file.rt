@@ -1,9 +1,9 @@
 //! A keeper that writes a file.
 
-ghost use Rattle.std.specs.Prelude.{◌≡◌, false, true, [], ◌∷◌, IfErr, IfOk, Some};
+ghost use Rattle.std.specs.Prelude.{◌≡◌, ◌++◌, false, true, [], ◌∷◌, codes, IfErr, IfOk, Some};
 ghost use Rattle.cm_io.specs.Counts.{one_more};
 ghost use Rattle.cm_keep.specs.Asked.{Asks, AsksOneOf, names_at, unmade};
-ghost use Rattle.cm_keep.specs.Files.{beside_name};
+ghost use Rattle.cm_keep.specs.Files.{IsFaultLine, TellsWhere, beside_name};
 ghost use Rattle.cm_keep.specs.declared.place.PlaceCall.TheVariants as call;
 
 use crate::{FilePlace, TextKeeper};
@@ -74,19 +74,20 @@ impl<F: FilePlace + Drop> FileKeeper<F> {
 
     /// The line that says that the journal doesn't stand in its place, and why; and where it stands, if it
     /// is whole.
-    pub fn fault_line(&self, alloc: Global) -> Result<Text, Memory> {
-        let place = &self.place;
+    pub fn fault_line(&self, alloc: Global) -> Result<Text, Memory>
+        ensures line { IfOk result (IsFaultLine self.now.place) }
+        ensures left { self.now.is_left ≡ true →
+            IfOk result (TellsWhere self.now.place self.now.beside) }
+    {
         let beside = &self.beside;
-        let mut line = Text::new(alloc);
-        line.push(format_args!("journal fault: {place}"))?;
+        let mut told = Text::new(alloc);
         if let Some(why) = &self.why {
-            line.push(format_args!(": {why}"))?;
+            told.push(format_args!(": {why}"))?;
         }
         if self.is_left {
-            line.push(format_args!("; it stands in {beside}"))?;
+            told.push(format_args!("; it stands in {beside}"))?;
         }
-        line.push_str("\n")?;
-        Ok(line)
+        line_of(alloc, &self.place, &told)
     }
 
     /// What it was made with, through which it asked all that it did.
@@ -191,11 +192,24 @@ impl<F: FilePlace + Drop> TextKeeper for FileKeeper<F> {
 }
 
 /// The line that says that no file can be made for a journal there, and why. An empty path isn't named.
-pub fn fault_line(alloc: Global, place: &Text, why: &Error) -> Result<Text, Memory> {
-    let mut line = Text::from_str(alloc, "journal fault: ")?;
-    if !place.is_empty() {
-        line.push(format_args!("{place}: "))?;
+pub fn fault_line(alloc: Global, place: &Text, why: &Error) -> Result<Text, Memory>
+    ensures { IfOk result (IsFaultLine place.now) }
+{
+    let mut told = Text::new(alloc);
+    if place.is_empty() {
+        told.push(format_args!("{why}"))?;
+    } else {
+        told.push(format_args!(": {why}"))?;
     }
-    line.push(format_args!("{why}\n"))?;
+    line_of(alloc, place, &told)
+}
+
+/// The line of a fault with the journal at that place, of which more is told.
+fn line_of(alloc: Global, place: &Text, told: &Text) -> Result<Text, Memory>
+    ensures { IfOk result (λ line. line
+        ≡ codes "journal fault: " ++ (place.now ++ (told.now ++ codes "\n"))) }
+{
+    let mut line = Text::new(alloc);
+    line.push(format_args!("journal fault: {place}{told}\n"))?;
     Ok(line)
 }

@@ -1,12 +1,13 @@
 //! The journal of a service: where it is to be kept, and its keeping.
 
-ghost use Rattle.std.specs.Prelude.{◌≡◌, ◌⊎◌, true, [], ◌∷◌, IfErr, IfOk, IsOk, OnErr, OnOk};
+ghost use Rattle.std.specs.Prelude.{◌≡◌, ◌⊎◌, true, [], ◌∷◌, IfErr, IfOk, IsOk, MatchResult, OnErr, OnOk};
 ghost use Rattle.cm_keep.specs.Asked.{Asks, AsksOneOf, failed_keeping, failing, names_at, placing, trying};
 ghost use Rattle.cm_keep.specs.Asked.{keeping as keeping_calls, unmade};
-ghost use Rattle.cm_keep.specs.Files.{IsTried, NeverBegan, StandsAt, beside_name};
+ghost use Rattle.cm_keep.specs.Files.{IsTold, IsTried, NeverBegan, StandsAt, beside_name};
 ghost use Rattle.cm_keep.specs.Keeping.{Caused, IsKept, IsLeft, kept_text};
 ghost use Rattle.cm_keep.specs.Service.{Plans};
 ghost use Rattle.cm_keep.specs.declared.place.PlaceCall.TheVariants as call;
+ghost use Rattle.cm_keep.specs.declared.service.Unkept.TheVariants as unkept;
 
 use crate::{FileKeeper, FilePlace, KeepFault, TextKeeper, fault_line, keep_journal};
 use cm_book::Book;
@@ -55,7 +56,9 @@ pub fn keeping_of(
 }
 
 /// Why the journal can't be kept, as a line.
-fn as_unkept(line: Result<Text, Memory>) -> Unkept {
+fn as_unkept(line: Result<Text, Memory>) -> Unkept
+    ensures { MatchResult line (λ text. result ≡ unkept.Said text) (λ _. result ≡ unkept.Memory) }
+{
     match line {
         Ok(line) => Unkept::Said(line),
         Err(Memory) => Unkept::Memory,
@@ -77,6 +80,7 @@ fn keeper_of<F: FilePlace + Drop>(
         (call.Create (beside_name keeping.now.at number) true ∷ [])) }
     ensures unmade { IfErr result (λ left.
         AsksOneOf (F.asked files) (F.asked left.0) (unmade (names_at keeping.now.at number))) }
+    ensures told { IfErr result (λ left. IsTold keeping.now.at left.1) }
 {
     match FileKeeper::new(alloc, files, number, &keeping.at) {
         Ok(keeper) => Ok(keeper),
@@ -98,6 +102,7 @@ pub fn try_keeping<F: FilePlace + Drop>(
         (Asks (F.asked files) (F.asked result.0) (trying (names_at keeping.now.at number))) }
     ensures unmade { OnErr result.1
         (AsksOneOf (F.asked files) (F.asked result.0) (unmade (names_at keeping.now.at number))) }
+    ensures told { IfErr result.1 (IsTold keeping.now.at) }
 {
     let mut keeper = match keeper_of(alloc, files, number, keeping) {
         Ok(keeper) => keeper,
@@ -153,6 +158,7 @@ pub fn keep_service<F: FilePlace + Drop>(
         ⊎ Asks (F.asked files) (F.asked result.0) (keeping_calls (names_at keeping.now.at number))) }
     ensures failed { OnErr result.1
         (AsksOneOf (F.asked files) (F.asked result.0) (failing (names_at keeping.now.at number))) }
+    ensures told { IfErr result.1 (IsTold keeping.now.at) }
 {
     if status != 0 && book.entries().is_empty() {
         return (files, Ok(()));
