@@ -216,7 +216,13 @@ const TEXTS: &str = "\
     | %%\n\
     @ask-in\n\
     => 0\n\
-    == data-is-used: a client that uses a directory with all rights to read and write, and the question\n\
+    == store-to-read: a store that exposes its directory to be read, up to what follows these rights\n\
+    @offer-of-data\n\
+    | manifest fuchsia-pkg://t/a#s\n\
+    | {capabilities:[{directory:'data',path:'/data',rights:['rw*']}],expose:[{from:'self',\
+    directory:'data',rights:['r*']\n\
+    == data-is-used: its end, a client that uses the directory to read and write, and the question\n\
+    | %%\n\
     | manifest fuchsia-pkg://t/a#c\n\
     | {use:[{path:'/in',directory:'data',rights:['rw*']}]}\n\
     $asked-in$\n\
@@ -225,7 +231,11 @@ const TEXTS: &str = "\
     | manifest fuchsia-pkg://t/a#c\n\
     | {use:[{path:'/in',protocol:'data'}]}\n\
     $asked-in$\n\
-    == offer-of-protocol: a root that offers a protocol, up to where it is from\n\
+    == offer-of-directory: a root that offers a directory, up to where it is from\n\
+    | manifest fuchsia-pkg://t/a#meta/root.cm\n\
+    | {children:[{name:'store',url:'#s'},{name:'client',url:'#c'}],offer:[{to:'#client',directory:'data',\
+    from:\n\
+    == offer-of-protocol: the same of a protocol\n\
     | manifest fuchsia-pkg://t/a#meta/root.cm\n\
     | {children:[{name:'store',url:'#s'},{name:'client',url:'#c'}],offer:[{to:'#client',protocol:'data',\
     from:\n\

@@ -214,9 +214,7 @@ pub const ROUTES: &str = "\
 /// no expose of that kind.
 pub const RIGHTS: &str = "\
     == run\n\
-    | manifest fuchsia-pkg://t/a#meta/root.cm\n\
-    | {children:[{name:'store',url:'#s'},{name:'client',url:'#c'}],offer:[{to:'#client',directory:'data',\
-    from:'#store',rights:['r*']}]}\n\
+    $offer-of-directory$'#store',rights:['r*']}]}\n\
     | %%\n\
     @store-of-data\n\
     | manifest fuchsia-pkg://t/a#c\n\
@@ -236,25 +234,15 @@ pub const RIGHTS: &str = "\
     out 0 route /data/a/b/c/d at store incarnation 1 rights connect through use client, offer ., expose \
     store, capability store\n\
     == run\n\
-    @offer-of-data\n\
-    | manifest fuchsia-pkg://t/a#s\n\
-    | {capabilities:[{directory:'data',path:'/data',rights:['rw*']}],expose:[{from:'self',\
-    directory:'data',rights:['r*'],availability:'optional'}]}\n\
-    | %%\n\
+    $store-to-read$,availability:'optional'}]}\n\
     $data-is-used$\n\
     out 0 refused 87 availability-too-weak at expose store\n\
     == run\n\
-    @offer-of-data\n\
-    | manifest fuchsia-pkg://t/a#s\n\
-    | {capabilities:[{directory:'data',path:'/data',rights:['rw*']}],expose:[{from:'self',\
-    directory:'data',rights:['r*']}]}\n\
-    | %%\n\
+    $store-to-read$}]}\n\
     $data-is-used$\n\
     out 0 refused 87 rights-too-weak at expose store\n\
     == run\n\
-    | manifest fuchsia-pkg://t/a#meta/root.cm\n\
-    | {children:[{name:'store',url:'#s'},{name:'client',url:'#c'}],offer:[{to:'#client',directory:'data',\
-    from:'void',availability:'optional'}]}\n\
+    $offer-of-directory$'void',availability:'optional'}]}\n\
     | %%\n\
     @store-of-data\n\
     | manifest fuchsia-pkg://t/a#c\n\
