@@ -482,7 +482,7 @@ fn cut_child(alloc: Global, bytes: &[u8]) -> Result<Option<(ChildName, &[u8])>, 
 }
 
 /// The names of children that stand between the slashes, or `None` where something else does.
-fn children_in(alloc: Global, text: &[u8]) -> Result<Option<List<Shared<ChildName>>>, Memory>
+fn children_in(alloc: Global, text: &[u8]) -> Result<Option<List<ChildName>>, Memory>
     ensures { IfOk result (λ found. IfSome found (λ parts.
         All IsChildName parts × (map child_text parts ≡ parts_of text.now))) }
 {
@@ -493,7 +493,7 @@ fn children_in(alloc: Global, text: &[u8]) -> Result<Option<List<Shared<ChildNam
         let Some((child, behind)) = cut_child(alloc, rest)? else {
             return Ok(None);
         };
-        parts.push(Shared::new(alloc, child)?)?;
+        parts.push(child)?;
         if behind.is_empty() {
             return Ok(Some(parts));
         }
@@ -517,7 +517,7 @@ pub fn read_moniker(alloc: Global, word: &[u8]) -> Result<Moniker, WordFault>
     }
     match children_in(alloc, behind_slash(word))? {
         Some(parts) => Ok(Moniker {
-            parts: Chain::from_list(parts),
+            parts: Chain::from_list(Shared::new(alloc, parts)?),
         }),
         None => judge_moniker(alloc, word),
     }

@@ -13,6 +13,7 @@ use Rattle.cm_names.specs.contracts.chain.Chain.TheInside
 use Rattle.cm_names.specs.contracts.chain.Kept
 use Rattle.cm_names.specs.contracts.child.ChildName
 use Rattle.cm_names.specs.contracts.link.NameLink
+use Rattle.cm_names.specs.contracts.list.List
 use Rattle.cm_names.specs.contracts.moniker.Moniker
 use Rattle.cm_names.specs.contracts.shared.Shared
 
@@ -29,8 +30,8 @@ link_sync = both_sync-NameLink Arc-send Arc-sync (shared.the_send ChildName.the_
 kept_send : IsSend (Kept.the_field).row
 kept_send = enum_send (declared_enum.shape Kept.the_type) (
   (
-    list.the_send (Shared.the_row ChildName.the_row)
-        (shared.the_send ChildName.the_row child.the_send child.the_sync),
+    shared.the_send (List.the_row ChildName.the_row) (list.the_send ChildName.the_row child.the_send)
+        (list.the_sync ChildName.the_row child.the_sync),
     tt,
   ),
   ((link_send, tt), tt),
@@ -39,8 +40,8 @@ kept_send = enum_send (declared_enum.shape Kept.the_type) (
 kept_sync : IsSync (Kept.the_field).row
 kept_sync = enum_sync (declared_enum.shape Kept.the_type) (
   (
-    list.the_sync (Shared.the_row ChildName.the_row)
-        (shared.the_sync ChildName.the_row child.the_send child.the_sync),
+    shared.the_sync (List.the_row ChildName.the_row) (list.the_send ChildName.the_row child.the_send)
+        (list.the_sync ChildName.the_row child.the_sync),
     tt,
   ),
   ((link_sync, tt), tt),

@@ -1,7 +1,7 @@
 //! Lists of names that share their prefixes.
 
 ghost use Rattle.std.specs.Prelude.{◌≡◌, ◌∷◌, ◌++◌, ◌↔◌, ◌-◌, [], ◌≤◌, ◌<◌, length, map, take, slice_get};
-ghost use Rattle.std.specs.Prelude.{IsTrue, IfOk, get_or, false};
+ghost use Rattle.std.specs.Prelude.{IsTrue, IfOk, IfSome, get_or, false};
 ghost use Rattle.std.specs.Option.{option_copied};
 ghost use Rattle.std.specs.Cmp.Lexicographic.{pointwise};
 ghost use Rattle.std.specs.List.{starts_with};
@@ -15,8 +15,8 @@ use std::marker::Model;
 
 /// How the names are kept.
 pub(crate) enum Kept {
-    /// In a list, as they were read.
-    Listed(List<Shared<ChildName>>),
+    /// In one list, as they were read, which copies share.
+    Listed(Shared<List<ChildName>>),
     /// Each with those before it, which others may have too.
     Linked(NameLink),
 }
@@ -34,7 +34,7 @@ impl Drop for Kept {
 /// list of its names.
 ///
 /// What grows out of it by [`Chain::with`] shares its names and takes memory for one name more,
-/// unless they were given as a list. A copy of linked names takes no memory.
+/// unless they were given as a list. A copy takes no memory.
 pub struct Chain {
     kept: Kept,
 }
@@ -60,7 +60,7 @@ impl Model for Chain {
 /// A prefix of a chain, as it is kept.
 pub(crate) enum Prefix<'a> {
     /// Names of a list.
-    Listed(&'a [Shared<ChildName>]),
+    Listed(&'a [ChildName]),
     /// Names that are linked.
     Linked(&'a NameLink),
 }
@@ -91,7 +91,7 @@ impl<'a> Prefix<'a> {
     }
 
     /// The last name.
-    fn last(self) -> Option<&'a Shared<ChildName>>
+    fn last(self) -> Option<&'a ChildName>
         ensures { let all = names_in self.entry in option_copied result ≡ slice_get all (length all - 1) }
     {
         match self {
@@ -127,7 +127,7 @@ impl Chain {
     }
 
     /// The names of a list.
-    pub fn from_list(names: List<Shared<ChildName>>) -> Chain
+    pub fn from_list(names: Shared<List<ChildName>>) -> Chain
         ensures { result ≡ names }
     {
         Chain {
@@ -141,7 +141,7 @@ impl Chain {
         ensures deep { IsPrefixDeep result }
     {
         match &self.kept {
-            Kept::Listed(names) => Prefix::Listed(names.as_slice()),
+            Kept::Listed(names) => Prefix::Listed(names.get().as_slice()),
             Kept::Linked(link) => Prefix::Linked(link),
         }
     }
@@ -161,7 +161,7 @@ impl Chain {
     }
 
     /// The last name, or `None` where there is none.
-    pub fn last(&self) -> Option<&Shared<ChildName>>
+    pub fn last(&self) -> Option<&ChildName>
         ensures { option_copied result ≡ slice_get self.now (length self.now - 1) }
     {
         self.whole().last()
@@ -169,7 +169,7 @@ impl Chain {
 
     /// The name at `index`, or `None` where the list ends before it. Where the names are linked, it
     /// goes past all that stand behind it.
-    pub fn get(&self, index: usize) -> Option<&Shared<ChildName>>
+    pub fn get(&self, index: usize) -> Option<&ChildName>
         ensures { option_copied result ≡ slice_get self.now index }
     {
         if index >= self.len() {
@@ -179,7 +179,7 @@ impl Chain {
     }
 
     /// The name at `index`. Where the names are linked, it goes past all that stand behind it.
-    pub fn at(&self, index: usize) -> &Shared<ChildName>
+    pub fn at(&self, index: usize) -> &ChildName
         requires { index < length self.now }
         ensures { result.now ≡ get_or self.now index result.now }
     {
@@ -189,12 +189,22 @@ impl Chain {
         }
     }
 
+    /// The names, where they were given as a list, and `None` where they are linked.
+    pub fn listed(&self) -> Option<&[ChildName]>
+        ensures { IfSome result (λ names. names.now ≡ self.now) }
+    {
+        match &self.kept {
+            Kept::Listed(names) => Some(names.get().as_slice()),
+            Kept::Linked(_) => None,
+        }
+    }
+
     /// The names, from the first on. `Err(Memory)` comes where memory runs out.
-    pub fn items(&self, alloc: Global) -> Result<Vec<&Shared<ChildName>>, Memory>
+    pub fn items(&self, alloc: Global) -> Result<Vec<&ChildName>, Memory>
         ensures { IfOk result (λ found. map (λ x. x.now) found.items ≡ self.now) }
     {
         match &self.kept {
-            Kept::Listed(names) => all_of(alloc, names.as_slice()),
+            Kept::Listed(names) => all_of(alloc, names.get().as_slice()),
             Kept::Linked(link) => link.names(alloc),
         }
     }
@@ -220,9 +230,9 @@ impl Chain {
     {
         match &self.kept {
             Kept::Listed(names) => {
-                let mut names = names.clone()?;
-                names.push(name)?;
-                Ok(Chain::from_list(names))
+                let mut names = names.get().clone()?;
+                names.push(name.get().clone()?)?;
+                Ok(Chain::from_list(Shared::new(alloc, names)?))
             }
             Kept::Linked(link) => {
                 let above = link.share()?;
@@ -241,8 +251,9 @@ impl Chain {
     {
         match &self.kept {
             Kept::Listed(names) => {
-                let prefix = &names.as_slice()[..count];
-                Ok(Chain::from_list(List::from_vec(prefix.to_vec(alloc)?)))
+                let prefix = &names.get().as_slice()[..count];
+                let prefix = List::from_vec(prefix.to_vec(alloc)?);
+                Ok(Chain::from_list(Shared::new(alloc, prefix)?))
             }
             Kept::Linked(link) => {
                 let link = link.upto(count).share()?;
@@ -266,7 +277,7 @@ impl Chain {
 }
 
 /// The names of a list, one by one. `Err(Memory)` comes where memory runs out.
-fn all_of(alloc: Global, names: &[Shared<ChildName>]) -> Result<Vec<&Shared<ChildName>>, Memory>
+fn all_of(alloc: Global, names: &[ChildName]) -> Result<Vec<&ChildName>, Memory>
     ensures { IfOk result (λ found. map (λ x. x.now) found.items ≡ names.now) }
 {
     let mut found = Vec::with_capacity(alloc, names.len())?;
@@ -276,7 +287,7 @@ fn all_of(alloc: Global, names: &[Shared<ChildName>]) -> Result<Vec<&Shared<Chil
     Ok(found)
 }
 
-/// A copy of linked names takes no memory.
+/// A copy takes no memory.
 impl Clone for Chain {
     ghost use Rattle.std.specs.Prelude.{◌≡◌};
 

@@ -76,12 +76,12 @@ impl NameLink {
     }
 
     /// The last name.
-    pub(crate) fn last(&self) -> Option<&Shared<ChildName>>
+    pub(crate) fn last(&self) -> Option<&ChildName>
         ensures { let all = names_of self.now in option_copied result ≡ slice_get all (length all - 1) }
     {
         match self {
             NameLink::Root => None,
-            NameLink::Below(shared) => Some(&shared.as_ref().name),
+            NameLink::Below(shared) => Some(shared.as_ref().name.get()),
         }
     }
 
@@ -104,14 +104,14 @@ impl NameLink {
     }
 
     /// The names, from the first on. `Err(Memory)` comes where memory runs out.
-    pub(crate) fn names(&self, alloc: Global) -> Result<Vec<&Shared<ChildName>>, Memory>
+    pub(crate) fn names(&self, alloc: Global) -> Result<Vec<&ChildName>, Memory>
         ensures { IfOk result (λ found. map (λ x. x.now) found.items ≡ names_of self.now) }
     {
         let mut found = Vec::with_capacity(alloc, self.depth())?;
         let mut at = self;
         while let NameLink::Below(shared) = at {
             let step = shared.as_ref();
-            found.push(&step.name)?;
+            found.push(step.name.get())?;
             at = &step.above;
         }
         found.reverse();
@@ -208,7 +208,7 @@ pub(crate) fn same(link: &NameLink, other: &NameLink) -> bool
 }
 
 /// Whether the names of a list and those up to a link are the same.
-pub(crate) fn agree(names: &[Shared<ChildName>], link: &NameLink) -> bool
+pub(crate) fn agree(names: &[ChildName], link: &NameLink) -> bool
     requires { IsDeep link.now }
     ensures { result ≡ pointwise ⟦<ChildName as PartialEq>⟧.eq names.now (names_of link.now) }
 {
@@ -220,7 +220,7 @@ pub(crate) fn agree(names: &[Shared<ChildName>], link: &NameLink) -> bool
     while let NameLink::Below(shared) = at {
         let step = shared.as_ref();
         left -= 1;
-        if names[left] != step.name {
+        if names[left] != *step.name.get() {
             return false;
         }
         at = &step.above;

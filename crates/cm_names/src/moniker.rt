@@ -161,7 +161,7 @@ fn cut_at_colon(part: &str) -> Option<(&str, &str)>
 }
 
 /// The child's name that has this text.
-fn read_child(alloc: Global, part: &str) -> Result<Shared<ChildName>, Memory>
+fn read_child(alloc: Global, part: &str) -> Result<ChildName, Memory>
     requires { IsChildText part.now }
     ensures is_child { IfOk result (λ child. IsChildName child) }
     ensures text { IfOk result (λ child. child_text child ≡ part.now) }
@@ -169,19 +169,19 @@ fn read_child(alloc: Global, part: &str) -> Result<Shared<ChildName>, Memory>
     match cut_at_colon(part) {
         None => {
             let name = read_name(alloc, part)?;
-            Shared::new(alloc, ChildName { coll: None, name })
+            Ok(ChildName { coll: None, name })
         }
         Some((coll, name)) => {
             let coll = read_name(alloc, coll)?;
             let name = read_name(alloc, name)?;
             let coll = Some(coll);
-            Shared::new(alloc, ChildName { coll, name })
+            Ok(ChildName { coll, name })
         }
     }
 }
 
 /// The children's names whose texts stand between the slashes.
-fn read_parts(alloc: Global, text: &str) -> Result<List<Shared<ChildName>>, Memory>
+fn read_parts(alloc: Global, text: &str) -> Result<List<ChildName>, Memory>
     requires { All IsChildText (parts_of text.now) }
     ensures names { IfOk result (λ parts. All IsChildName parts) }
     ensures texts { IfOk result (λ parts. map child_text parts ≡ parts_of text.now) }
@@ -213,16 +213,15 @@ fn read_whole(alloc: Global, text: &str) -> Result<Moniker, Memory>
     }
     let parts = read_parts(alloc, behind_slash(text))?;
     Ok(Moniker {
-        parts: Chain::from_list(parts),
+        parts: Chain::from_list(Shared::new(alloc, parts)?),
     })
 }
 
 /// Puts the text of a child's name at the end.
-fn push_child(text: &mut Text, child: &Shared<ChildName>) -> Result<(), Memory>
+fn push_child(text: &mut Text, child: &ChildName) -> Result<(), Memory>
     ensures text { OnOk result (text.new ≡ text.old ++ child_text child.now) }
     ensures is_child { OnOk result (IsChildName child.now) }
 {
-    let child = child.get();
     if let Some(coll) = &child.coll {
         text.push_str(coll.as_str())?;
         text.push_str(":")?;

@@ -81,7 +81,7 @@ impl<T: ListItem + Drop> ListItem for Shared<T> {
 }
 
 /// Puts names of children at the end, each after a slash.
-fn push_behind_slashes(text: &mut String, parts: &[&Shared<ChildName>]) -> Result<(), Memory>
+fn push_behind_slashes(text: &mut String, parts: &[&ChildName]) -> Result<(), Memory>
     ensures { OnOk result (GainsText text.old text.new
         (spec.each_behind (codes "/") child_text (map (λ x. x.now) parts.now))) }
 {
@@ -93,7 +93,7 @@ fn push_behind_slashes(text: &mut String, parts: &[&Shared<ChildName>]) -> Resul
 }
 
 /// Puts names of children at the end, with slashes between them; a dot for none.
-fn push_parts(text: &mut String, parts: &[&Shared<ChildName>]) -> Result<(), Memory>
+fn push_parts(text: &mut String, parts: &[&ChildName]) -> Result<(), Memory>
     ensures { OnOk result (GainsText text.old text.new
         (spec_inside.parts_text (map (λ x. x.now) parts.now))) }
 {
@@ -104,10 +104,24 @@ fn push_parts(text: &mut String, parts: &[&Shared<ChildName>]) -> Result<(), Mem
     push_behind_slashes(text, others)
 }
 
+/// Puts names of children at the end as they stand in a list, with slashes between them; a dot for none.
+fn push_listed(text: &mut String, names: &[ChildName]) -> Result<(), Memory>
+    ensures { OnOk result (GainsText text.old text.new (spec_inside.parts_text names.now)) }
+{
+    let [first, others @ ..] = names else {
+        return push(text, ".");
+    };
+    first.push_to(text)?;
+    push_each(text, "/", others)
+}
+
 /// Puts where an instance stands at the end. `Err` where memory runs out.
 pub fn push_moniker(text: &mut String, moniker: &Moniker) -> Result<(), Memory>
     ensures { OnOk result (GainsText text.old text.new (moniker_text moniker.now)) }
 {
+    if let Some(names) = moniker.parts.listed() {
+        return push_listed(text, names);
+    }
     let parts = moniker.parts.items(*text.allocator())?;
     push_parts(text, parts.as_slice())
 }

@@ -9,7 +9,7 @@ ghost use Rattle.cm_storage.specs.KnownPlace as spec;
 use crate::fault::StorageFault;
 use crate::places::Place;
 use crate::report::push_refused;
-use cm_names::{ChildName, Memory, Shared, Text};
+use cm_names::{ChildName, Memory, Text};
 use cm_reply::lists::{ListItem, push};
 use cm_reply::routes::push_source;
 use std::alloc::Global;
@@ -88,7 +88,7 @@ pub(crate) fn refused(alloc: Global, fault: &StorageFault) -> Result<KnownPlace,
 pub(crate) fn stands(
     alloc: Global,
     place: &Place,
-    names: &[&Shared<ChildName>],
+    names: &[&ChildName],
 ) -> Result<KnownPlace, Memory>
     ensures { IfOk result (λ known. known ≡ spec.stands place.now (map (λ x. x.now) names.now)) }
 {
@@ -98,7 +98,7 @@ pub(crate) fn stands(
 }
 
 /// ` at BASE/`, and the folders of these names.
-fn head_of(alloc: Global, base: &str, names: &[&Shared<ChildName>]) -> Result<Text, Memory>
+fn head_of(alloc: Global, base: &str, names: &[&ChildName]) -> Result<Text, Memory>
     ensures { IfOk result (λ head. head ≡ spec.head_of base.now (map (λ x. x.now) names.now)) }
 {
     let mut text = String::new(alloc);
@@ -110,7 +110,7 @@ fn head_of(alloc: Global, base: &str, names: &[&Shared<ChildName>]) -> Result<Te
 }
 
 /// Puts the folder of each name, and what stands below it, at the end.
-fn push_folders(text: &mut String, names: &[&Shared<ChildName>]) -> Result<(), Memory>
+fn push_folders(text: &mut String, names: &[&ChildName]) -> Result<(), Memory>
     ensures { OnOk result (GainsText text.old text.new
         (spec.folders_text (map (λ x. x.now) names.now))) }
 {

@@ -13,7 +13,7 @@ ghost use Rattle.cm_storage.specs.ParentAtHand.{IsStanding, IsToldChildOf};
 use crate::firsts::OfferIndex;
 use crate::known::KnownPlace;
 use cm_decl::{Decl, Origin, StorageOffer};
-use cm_names::{ChildName, Memory, Name, Shared, Text};
+use cm_names::{ChildName, Memory, Name, Text};
 use cm_reply::lists::{ListItem, push};
 use cm_walk::hop::moniker;
 use cm_world::{ParentPlace, View};
@@ -150,7 +150,7 @@ fn prefix_alone<V: View>(alloc: Global, view: &V, inc: u64) -> Result<Text, Memo
 }
 
 /// Puts each name, with a slash after it, at the end.
-fn push_names(text: &mut String, names: &[&Shared<ChildName>]) -> Result<(), Memory>
+fn push_names(text: &mut String, names: &[&ChildName]) -> Result<(), Memory>
     ensures { OnOk result (GainsText text.old text.new
         (spec.names_text (map (λ x. x.now) names.now))) }
 {

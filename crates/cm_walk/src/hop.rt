@@ -7,7 +7,7 @@ ghost use Rattle.cm_world.specs.Stations as spec;
 ghost use Rattle.cm_walk.specs.Walking.{IsHopPlaced};
 
 use cm_decl::Kind;
-use cm_names::{Chain, List, Memory, Moniker, Name};
+use cm_names::{Chain, List, Memory, Moniker, Name, Shared};
 use cm_world::{Hop, StepKind, View};
 use std::alloc::Global;
 
@@ -32,12 +32,13 @@ fn names_up<V: View>(alloc: Global, view: &V, inc: u64) -> Result<Moniker, Memor
     let mut names = Vec::with_capacity(alloc, FIRST_ROOM)?;
     let mut at = inc;
     'up: while let Some(place) = view.place(at) {
-        names.push(place.name.clone()?)?;
+        names.push(place.name.get().clone()?)?;
         at = place.parent;
     }
     names.reverse();
+    let listed = Shared::new(alloc, List::from_vec(names))?;
     Ok(Moniker {
-        parts: Chain::from_list(List::from_vec(names)),
+        parts: Chain::from_list(listed),
     })
 }
 

@@ -49,7 +49,7 @@ pub fn locate_below<L: Ledger, S: Store<L>>(
         if !store.is_resolved(at, steps) {
             return Located::Unresolved(at);
         }
-        match store.child(at, moniker.parts.at(depth).get(), steps) {
+        match store.child(at, moniker.parts.at(depth), steps) {
             None => return Located::Missing(told_index(depth)),
             Some(next) => at = next,
         }

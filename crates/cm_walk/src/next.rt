@@ -207,7 +207,7 @@ fn name_at<'a, V: View>(view: &'a V, parent: u64, here: &'a Hop) -> Option<&'a C
     ensures { option_copied result ≡ name_of (V.rows view.now) here.now.inc }
 {
     match here.moniker.parts.last() {
-        Some(name) => Some(name.get()),
+        Some(name) => Some(name),
         None => view.name(here.inc),
     }
 }

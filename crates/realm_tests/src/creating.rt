@@ -145,5 +145,5 @@ fn child_of(alloc: Global, word: &str) -> Option<ChildName> {
 
 /// The last name of a moniker; `None` for the root's.
 fn last_of(moniker: &Moniker) -> Option<ChildName> {
-    moniker.parts.last()?.get().clone().ok()
+    moniker.parts.last()?.clone().ok()
 }

@@ -32,7 +32,7 @@ pub fn child_of(alloc: Global, input: &str) -> Option<Text> {
 /// The name of a child, which may stand in a collection.
 fn child_name(alloc: Global, name: &str) -> Option<ChildName> {
     match Moniker::read(alloc, name) {
-        Ok(moniker) => copy_of(moniker.parts.last()?.get()),
+        Ok(moniker) => copy_of(moniker.parts.last()?),
         Err(_) => None,
     }
 }

@@ -1,4 +1,4 @@
-use Rattle.std.proofs.Common.{rules, ◌≡◌, ◌≤◌, ◌<◌, ◌-◌, ◌++◌, [], ◌∷◌, length, take, sym, ap, ◌∙◌, false, true, ◌&&◌, arith, length-append}
+use Rattle.std.proofs.Common.{rules, ◌≡◌, ◌≤◌, ◌<◌, ◌-◌, ◌++◌, [], ◌∷◌, length, take, sym, ap, subst, ◌∙◌, false, true, ◌&&◌, arith, length-append}
 use Rattle.std.proofs.Math.Bool.{and-true, and-false}
 use Rattle.std.proofs.lemmas.Bool.{not-true, not-false}
 use Rattle.std.proofs.lemmas.List.{length-take-le}
@@ -19,7 +19,7 @@ returns-then-ne c =
     let above : c.loop-at.left - 1 ≡ length (names_of v.above) = omega (arith, c.loop-at.invariant.long, ap length two, length-append (names_of v.above) (v.name ∷ [])) in
     let within : c.loop-at.left - 1 ≤ length xs = omega (arith, c.loop-at.invariant.within) in
     let long : length (take (c.loop-at.left - 1) xs) ≡ length (names_of v.above) = length-take-le (c.loop-at.left - 1) xs within ∙ above in
-    let differ : is_same y v.name ≡ false = not-true (is_same y v.name) (sym c.if-ne.ensures) in
+    let differ : is_same y v.name ≡ false = subst (λ n. is_same y n ≡ false) c.get.ensures (not-true (is_same y c.get.result.now) (sym c.if-ne.ensures)) in
     sym (c.loop-at.invariant.same ∙ pointwise-below (take (c.loop-at.left - 1) xs) y (names_of v.above) v.name is_same one two long
     ∙ ap (λ b. pointwise is_same (take (c.loop-at.left - 1) xs) (names_of v.above) && b) differ ∙ and-false _)
 
@@ -34,7 +34,7 @@ loop-at-preserved c =
     let above : c.loop-at.left - 1 ≡ length (names_of v.above) = omega (arith, c.loop-at.invariant.long, ap length two, length-append (names_of v.above) (v.name ∷ [])) in
     let within : c.loop-at.left - 1 ≤ length xs = omega (arith, c.loop-at.invariant.within) in
     let long : length (take (c.loop-at.left - 1) xs) ≡ length (names_of v.above) = length-take-le (c.loop-at.left - 1) xs within ∙ above in
-    let equal : is_same y v.name ≡ true = not-false (is_same y v.name) (sym c.if-ne.ensures) in
+    let equal : is_same y v.name ≡ true = subst (λ n. is_same y n ≡ true) c.get.ensures (not-false (is_same y c.get.result.now) (sym c.if-ne.ensures)) in
     record {
       deep = search rules;
       long = above;

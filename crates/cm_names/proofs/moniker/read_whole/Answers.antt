@@ -9,5 +9,5 @@ read_parts-requires c =
 
 pub returns : goal.returns
 returns c =
-    subst (λ names. IsMonikerTextOf c.args.text.now (record { parts = names })) (sym c.from_list.ensures)
+    subst (λ names. IsMonikerTextOf c.args.text.now (record { parts = names })) (sym (c.from_list.ensures ∙ c.in_ok-new.ensures))
     (made c.args.text.now c.in_ok-parts.parts c.in_ok-parts.ensures.names (c.in_ok-parts.ensures.texts ∙ search rules))

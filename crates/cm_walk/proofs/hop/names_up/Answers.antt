@@ -13,4 +13,4 @@ up-preserved g c =
 
 pub returns : goal.returns
 returns g c =
-    moniker-made c.from_list.result c.up.names.items (g.V.View.rows c.args.view.now) (g.V.View.next_inc c.args.view.now) c.args.inc c.up.at c.place.ensures.orderly c.in_default.ensures.parent c.in_default.ensures.name c.up.invariant (c.from_list.ensures ∙ c.from_vec.ensures ∙ c.reverse.ensures.items)
+    moniker-made c.from_list.result c.up.names.items (g.V.View.rows c.args.view.now) (g.V.View.next_inc c.args.view.now) c.args.inc c.up.at c.place.ensures.orderly c.in_default.ensures.parent c.in_default.ensures.name c.up.invariant (c.from_list.ensures ∙ c.in_ok-listed.ensures ∙ c.from_vec.ensures ∙ c.reverse.ensures.items)
