@@ -18,11 +18,32 @@ use cm_names::{Dependency, List, Memory};
 use cm_world::View;
 use std::alloc::Global;
 use std::collections::BTreeSet;
+use std::mem;
+
+/// Whether an instance is a child of the other that is free, and may have something to be shut at or below
+/// it; no clause says that there is. `glance.rt` asks it of one that was found to be free before.
+pub(crate) fn is_open<V: View>(
+    alloc: Global,
+    view: &V,
+    known: &mut Dependents,
+    parent: u64,
+    child: u64,
+) -> Result<bool, Memory>
+    requires sound { IsSound (V.rows view.now) (V.next_inc view.now) }
+    requires known { KnowsDependents (V.rows view.now) parent known.old }
+    ensures left { IfOk result (λ yet. IsTrue yet → IsFreeKid (V.rows view.now) parent child) }
+    ensures known { OnOk result (KnowsDependents (V.rows view.now) parent known.new) }
+{
+    if !is_child(view, parent, child) {
+        return Ok(false);
+    }
+    is_open_child(alloc, view, known, parent, child)
+}
 
 /// Whether a child is free and may have something to be shut at or below it; no clause says that there is.
 /// One that is free and all shut is cleared, if another waits for it. `glance.rt` asks it of each child that
 /// it comes to.
-pub(crate) fn is_open<V: View>(
+pub(crate) fn is_open_child<V: View>(
     alloc: Global,
     view: &V,
     known: &mut Dependents,
@@ -66,7 +87,7 @@ pub(crate) fn becomes_free<V: View>(
         if !is_cleared(alloc, view, known, parent, client)? {
             return Ok(false);
         }
-        release(known, child)?;
+        release(alloc, known, child)?;
     }
     Ok(false)
 }
@@ -192,7 +213,7 @@ fn settle<V: View>(
     if !all_shut(alloc, view, child)? {
         return Ok(());
     }
-    clear(known, child)?;
+    clear(alloc, known, child)?;
     Ok(())
 }
 
@@ -200,6 +221,7 @@ fn settle<V: View>(
 /// cleared, if it is in the list of another. While children weren't looked at yet, such a one stays for
 /// `glance.rt`, so that those are told before the ones that it frees.
 pub(crate) fn leave<V: View>(
+    alloc: Global,
     view: &V,
     known: &mut Dependents,
     parent: u64,
@@ -214,28 +236,36 @@ pub(crate) fn leave<V: View>(
         known.leave(child);
         return Ok(());
     }
-    if view.next_child(parent, known.passed).is_some() {
+    if is_one_ahead(view, known, parent) {
         return Ok(());
     }
     if !is_free_child(view, known, parent, child) {
         return Ok(());
     }
     known.leave(child);
-    clear(known, child)
+    clear(alloc, known, child)
+}
+
+/// Whether a child of a level wasn't looked at yet; no clause says so.
+fn is_one_ahead<V: View>(view: &V, known: &Dependents, parent: u64) -> bool {
+    if known.all_passed {
+        return false;
+    }
+    view.next_child(parent, known.passed).is_some()
 }
 
 /// Puts down that a node is cleared, and finds the children that become free by that.
-fn clear(known: &mut Dependents, node: u64) -> Result<(), Memory>
+fn clear(alloc: Global, known: &mut Dependents, node: u64) -> Result<(), Memory>
     ensures { OnOk result ((rows : Seq Row) (p : ℕ) → KnowsDependents rows p known.old →
         IsCleared rows p node → KnowsDependents rows p known.new) }
 {
     known.cleared.insert(node)?;
-    release_all(known, node)?;
+    release_all(alloc, known, node)?;
     Ok(())
 }
 
 /// Leaves what is cleared out of the lists of the children in which this node was put.
-fn release_all(known: &mut Dependents, node: u64) -> Result<(), Memory>
+fn release_all(alloc: Global, known: &mut Dependents, node: u64) -> Result<(), Memory>
     ensures { OnOk result ((rows : Seq Row) (p : ℕ) → KnowsDependents rows p known.old →
         KnowsDependents rows p known.new) }
 {
@@ -243,31 +273,44 @@ fn release_all(known: &mut Dependents, node: u64) -> Result<(), Memory>
         let Some(child) = known.source_at(place, node) else {
             return Ok(());
         };
-        release(known, child)?;
+        release(alloc, known, child)?;
     }
     Ok(())
 }
 
 /// Leaves what is cleared at the end of a child's list out of it. A child whose list is empty then
 /// is put down as one that is free.
-fn release(known: &mut Dependents, child: u64) -> Result<(), Memory>
+fn release(alloc: Global, known: &mut Dependents, child: u64) -> Result<(), Memory>
     ensures { OnOk result ((rows : Seq Row) (p : ℕ) → KnowsDependents rows p known.old →
         KnowsDependents rows p known.new) }
 {
-    let Some(list) = known.edges.clients.remove(&child) else {
+    let Some(clients) = known.edges.clients.get_mut(&child) else {
         return Ok(());
     };
-    let clients = trim(&known.cleared, list)?;
     if clients.is_empty() {
-        known.open.push_back(child)?;
         return Ok(());
     }
-    known.edges.clients.insert(child, clients)?;
+    let left = trim(alloc, &known.cleared, clients)?;
+    if left {
+        return Ok(());
+    }
+    known.open.push_back(child)?;
     Ok(())
 }
 
+/// Leaves what is cleared at the end of a list out of it, and tells whether something is left; no clause
+/// says so.
+fn trim(alloc: Global, cleared: &BTreeSet<u64>, list: &mut List<u64>) -> Result<bool, Memory>
+    ensures { OnOk result ((z : ℕ) → IsTrue (is_in_list list.old z) →
+        IsTrue (is_in_list list.new z) ⊎ IsTrue (is_in_set cleared.now z)) }
+{
+    let all = mem::replace(list, List::new(alloc));
+    *list = without_cleared(cleared, all)?;
+    Ok(!list.is_empty())
+}
+
 /// A list without what is cleared at its end.
-fn trim(cleared: &BTreeSet<u64>, list: List<u64>) -> Result<List<u64>, Memory>
+fn without_cleared(cleared: &BTreeSet<u64>, list: List<u64>) -> Result<List<u64>, Memory>
     ensures { IfOk result (λ left. (z : ℕ) → IsTrue (is_in_list list z) →
         IsTrue (is_in_list left z) ⊎ IsTrue (is_in_set cleared.now z)) }
 {

@@ -3,7 +3,10 @@
 //! They are gathered by strong edges alone, once for a level: what the instance uses strongly, and
 //! what is strongly offered or given to its children.
 
-ghost use Rattle.std.specs.Prelude.{◌≡◌, ◌≢◌, ℕ, List as Seq, false, Some, IsTrue, IfOk, OnOk};
+ghost use Rattle.std.specs.Prelude.{◌≡◌, ◌≢◌, ℕ, List as Seq, false, Some, None, IsTrue, IfOk, OnOk};
+ghost use Rattle.std.specs.Ordering.{nat_cmp};
+ghost use Rattle.std.specs.Cmp.Lexicographic.{slice_cmp};
+ghost use Rattle.std.specs.BTreeMap.{get};
 ghost use Rattle.cm_decl.specs.Graph as graph;
 ghost use Rattle.cm_world.specs.declared.row.Row.{Row};
 ghost use Rattle.cm_world.specs.Level.{is_from_row};
@@ -53,6 +56,8 @@ pub(crate) struct Dependents {
     pub open: VecDeque<u64>,
     /// The children up to this one were looked at; `None` where none was.
     pub passed: Option<u64>,
+    /// Whether none was found behind that one.
+    pub all_passed: bool,
 }
 
 impl Dependents {
@@ -71,6 +76,7 @@ impl Dependents {
             cleared: BTreeSet::new(alloc),
             open: VecDeque::new(alloc),
             passed: None,
+            all_passed: false,
         })
     }
 
@@ -92,9 +98,32 @@ impl Dependents {
     /// Where the edges of a node begin among those by who depends. A node's stand together, and nodes were
     /// looked at by increasing incarnations. No clause says so: who reads there tests whose edge it is.
     pub(crate) fn first_edge(&self, node: u64) -> usize {
+        let near = self.near_edge(node);
+        if self.begins_at(near, node) {
+            return near;
+        }
         self.edges
             .sources
             .partition_point(|edge| edge.client < node)
+    }
+
+    /// Where the edges of a node begin, if each incarnation from the first edge's up to it has one edge.
+    fn near_edge(&self, node: u64) -> usize {
+        match self.edges.sources.first() {
+            None => 0,
+            Some(edge) => node.saturating_sub(edge.client) as usize,
+        }
+    }
+
+    /// Whether the edge at a place is one of that node, and the one before isn't.
+    fn begins_at(&self, place: usize, node: u64) -> bool {
+        if self.source_at(place, node).is_none() {
+            return false;
+        }
+        if place == 0 {
+            return true;
+        }
+        self.source_at(place - 1, node).is_none()
     }
 
     /// The child in whose list a node was put by the edge at a place, if it is an edge of that node.
@@ -216,7 +245,24 @@ fn put_name(
     ensures here { OnOk result (IsTrue (is_offered offered.new name.now source)) }
     ensures kept { OnOk result (OfferedGrow offered.old offered.new) }
 {
-    let mut list = offered.remove(name).unwrap_or(List::new(alloc));
+    match offered.get_mut(name) {
+        None => begin_name(alloc, name, source, offered),
+        Some(list) => list.push(source),
+    }
+}
+
+/// Begins the list of a name that has none with an instance.
+fn begin_name(
+    alloc: Global,
+    name: &Name,
+    source: u64,
+    offered: &mut BTreeMap<Name, List<u64>>,
+) -> Result<(), Memory>
+    requires { get (slice_cmp nat_cmp) offered.old name.now ≡ None }
+    ensures here { OnOk result (IsTrue (is_offered offered.new name.now source)) }
+    ensures kept { OnOk result (OfferedGrow offered.old offered.new) }
+{
+    let mut list = List::new(alloc);
     list.push(source)?;
     offered.insert(name.clone()?, list)?;
     Ok(())
@@ -406,7 +452,24 @@ fn put_in(
     ensures here { OnOk result (IsTrue (is_client lists.new key item)) }
     ensures kept { OnOk result (ClientsGrow lists.old lists.new) }
 {
-    let mut list = lists.remove(&key).unwrap_or(List::new(alloc));
+    match lists.get_mut(&key) {
+        None => begin_list(alloc, key, item, lists),
+        Some(list) => list.push(item),
+    }
+}
+
+/// Begins the list of an instance that has none with another one.
+fn begin_list(
+    alloc: Global,
+    key: u64,
+    item: u64,
+    lists: &mut BTreeMap<u64, List<u64>>,
+) -> Result<(), Memory>
+    requires { get nat_cmp lists.old key ≡ None }
+    ensures here { OnOk result (IsTrue (is_client lists.new key item)) }
+    ensures kept { OnOk result (ClientsGrow lists.old lists.new) }
+{
+    let mut list = List::new(alloc);
     list.push(item)?;
     lists.insert(key, list)?;
     Ok(())

@@ -16,7 +16,7 @@ ghost use Rattle.cm_order.specs.Search.{IsHere};
 ghost use Rattle.cm_order.specs.declared.search.SearchGoal.TheVariants as wanted;
 
 use crate::below::all_shut;
-use crate::clearing::{is_child, is_open};
+use crate::clearing::{is_open, is_open_child};
 use crate::dependents::Dependents;
 use crate::search::VisitResult;
 use crate::stand::Stand;
@@ -46,7 +46,7 @@ pub(crate) fn glance<V: View>(
     if stand.below_shut {
         return Ok(lowest(view, stand));
     }
-    if view.next_child(stand.inc, None).is_none() {
+    if !has_kids(view, stand) {
         return Ok(leaf(view, stand));
     }
     let first = free_child(alloc, view, levels, stand.inc)?;
@@ -57,6 +57,16 @@ pub(crate) fn glance<V: View>(
         return Ok(VisitResult::Here);
     }
     Ok(VisitResult::Below(None))
+}
+
+/// Whether an instance has a child. That isn't asked where a child of it is known to be shut.
+fn has_kids<V: View>(view: &V, stand: &Stand) -> bool
+    ensures { result ≡ false → child_behind (V.rows view.now) stand.now.inc None ≡ None }
+{
+    if stand.done.is_some() {
+        return true;
+    }
+    view.next_child(stand.inc, None).is_some()
 }
 
 /// The look at a level below which all is known to be shut: only the instance itself may stop.
@@ -181,16 +191,20 @@ fn pass_on<V: View>(
     ensures chosen { IfOk result (IsChosen (V.rows view.now) parent) }
     ensures known { OnOk result (KnowsDependents (V.rows view.now) parent known.new) }
 {
+    if known.all_passed {
+        return Ok(None);
+    }
     let mut passed = known.passed;
     while let Some(child) = view.next_child(parent, passed) {
         passed = Some(child);
-        if is_open(alloc, view, known, parent, child)? {
+        if is_open_child(alloc, view, known, parent, child)? {
             known.passed = passed;
             known.open.push_back(child)?;
             return Ok(Some(child));
         }
     }
     known.passed = passed;
+    known.all_passed = true;
     Ok(None)
 }
 
@@ -210,31 +224,12 @@ fn open_child<V: View>(
         let Some(child) = known.open.pop_front() else {
             return Ok(None);
         };
-        if is_open_child(alloc, view, known, parent, child)? {
+        if is_open(alloc, view, known, parent, child)? {
             known.open.push_back(child)?;
             return Ok(Some(child));
         }
     }
     Ok(None)
-}
-
-/// Whether an instance is a child of the other that is open.
-fn is_open_child<V: View>(
-    alloc: Global,
-    view: &V,
-    known: &mut Dependents,
-    parent: u64,
-    child: u64,
-) -> Result<bool, Memory>
-    requires sound { IsSound (V.rows view.now) (V.next_inc view.now) }
-    requires known { KnowsDependents (V.rows view.now) parent known.old }
-    ensures left { IfOk result (λ yet. IsTrue yet → IsFreeKid (V.rows view.now) parent child) }
-    ensures known { OnOk result (KnowsDependents (V.rows view.now) parent known.new) }
-{
-    if !is_child(view, parent, child) {
-        return Ok(false);
-    }
-    is_open(alloc, view, known, parent, child)
 }
 
 /// Whether an instance isn't shut and has no pending action, and all below it is shut. What that looks

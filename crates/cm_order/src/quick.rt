@@ -67,7 +67,7 @@ fn descend<V: View>(
     ensures way { IsDescent (V.rows view.now) top way.new.items }
     ensures levels { AreKnown (V.rows view.now) levels.new }
 {
-    let mut at = start(view, levels, way, top)?;
+    let mut at = start(alloc, view, levels, way, top)?;
     for _turn in 0..TRIES {
         let found = go_down(alloc, view, levels, way, top, at)?;
         if found.is_some() {
@@ -130,6 +130,7 @@ fn go_up<V: View>(view: &V, way: &mut Vec<Stand>, top: u64) -> Result<Option<u64
 
 /// The place at which a pick begins: the last instance of the way that isn't shut, or the top.
 fn start<V: View>(
+    alloc: Global,
     view: &V,
     levels: &mut BTreeMap<u64, Dependents>,
     way: &mut Vec<Stand>,
@@ -143,7 +144,7 @@ fn start<V: View>(
     ensures way { IsDescent (V.rows view.now) top way.new.items }
     ensures levels { AreKnown (V.rows view.now) levels.new }
 {
-    if let Some(inc) = go_back(view, levels, way, top)? {
+    if let Some(inc) = go_back(alloc, view, levels, way, top)? {
         return Ok(inc);
     }
     way.push(Stand::new(top))?;
@@ -153,6 +154,7 @@ fn start<V: View>(
 /// Leaves behind what is shut at the end of the way, with what is kept of its levels. Tells the last
 /// instance that isn't; `None` where none is left.
 fn go_back<V: View>(
+    alloc: Global,
     view: &V,
     levels: &mut BTreeMap<u64, Dependents>,
     way: &mut Vec<Stand>,
@@ -171,7 +173,7 @@ fn go_back<V: View>(
         if is_unshut(view, inc) {
             count_done(view, &mut stand, closed);
             way.push(stand)?;
-            leave_level(view, levels, inc, closed)?;
+            leave_level(alloc, view, levels, inc, closed)?;
             return Ok(Some(inc));
         }
         forget_level(levels, &stand);
@@ -182,6 +184,7 @@ fn go_back<V: View>(
 
 /// Puts down in what is kept of a level that a child there is shut with all below it.
 fn leave_level<V: View>(
+    alloc: Global,
     view: &V,
     levels: &mut BTreeMap<u64, Dependents>,
     parent: u64,
@@ -197,7 +200,7 @@ fn leave_level<V: View>(
     };
     match levels.get_mut(&parent) {
         None => Ok(()),
-        Some(known) => match leave(view, known, parent, child) {
+        Some(known) => match leave(alloc, view, known, parent, child) {
             Ok(()) => Ok(()),
             Err(fault) => {
                 levels.remove(&parent);

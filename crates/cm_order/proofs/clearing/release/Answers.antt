@@ -1,26 +1,26 @@
-use Rattle.std.proofs.Common.{◌≡◌, [], Some, None, IsTrue, refl, sym, subst, ◌⊎◌}
+use Rattle.std.proofs.Common.{◌≡◌, [], Some, IsTrue, refl, sym, ◌∙◌, ap, subst, inl}
 use Rattle.std.specs.Prelude.{unwrap_or}
+use Rattle.std.specs.Option.{option_copied_mut, is_some}
 use Rattle.std.specs.Ordering.{nat_cmp}
-use Rattle.cm_decl.proofs.Sameness.{never}
-use Rattle.cm_order.specs.Glances.{is_in_list, is_in_set}
-use Rattle.cm_order.proofs.levels.Lists.{put_back}
+use Rattle.std.specs.BTreeMap.{get}
+use Rattle.cm_order.specs.Glances.{is_in_list}
 use Rattle.cm_order.proofs.levels.Clearing.{known_left}
 use Rattle.cm_order.proofs.clearing.release.Goals as goal
 
-pub returns-in_default : goal.returns-in_default
-returns-in_default c = λ rows p is.
-    known_left rows p c.args.child c.args.known.now _ None is refl c.remove.ensures.updates.0
-    (λ z there. never (subst (λ o. IsTrue (is_in_list (unwrap_or o []) z)) (sym c.in_default.ensures.value) there))
-
 pub returns-then-is_empty : goal.returns-then-is_empty
 returns-then-is_empty c = λ rows p is.
-    let none : c.in_ok-clients.clients ≡ [] = c.is_empty.ensures.0 c.if-is_empty.true in
-    known_left rows p c.args.child c.args.known.now _ None is refl c.remove.ensures.updates.0
-    (λ z there. subst (λ l. IsTrue (is_in_list l z) ⊎ IsTrue (is_in_set c.args.known.now.cleared z)) none
-    (c.in_ok-clients.ensures z (subst (λ o. IsTrue (is_in_list (unwrap_or o []) z)) (sym c.in-Some.ensures.value) there)))
+    let there : get nat_cmp c.args.known.now.edges.clients c.args.child ≡ Some c.in-Some.clients.now = sym c.get_mut.ensures.value ∙ ap option_copied_mut c.in-Some.is in
+    known_left rows p c.args.child c.args.known.now _ (Some c.in-Some.clients.now) is refl ((c.get_mut.follows.holds c.in-Some.clients.now).3 (ap is_some there)).0
+    (λ z here. inl (subst (λ o. IsTrue (is_in_list (unwrap_or o []) z)) there here))
+
+pub returns-then-left : goal.returns-then-left
+returns-then-left c = λ rows p is.
+    let there : get nat_cmp c.args.known.now.edges.clients c.args.child ≡ Some c.in-Some.clients.now = sym c.get_mut.ensures.value ∙ ap option_copied_mut c.in-Some.is in
+    known_left rows p c.args.child c.args.known.now _ (Some c.trim.new.list) is refl ((c.get_mut.follows.holds c.trim.new.list).3 (ap is_some there)).0
+    (λ z here. c.in_ok-left.ensures z (subst (λ o. IsTrue (is_in_list (unwrap_or o []) z)) there here))
 
 pub returns : goal.returns
 returns c = λ rows p is.
-    known_left rows p c.args.child c.args.known.now _ (Some c.in_ok-clients.clients) is refl
-    (put_back nat_cmp c.args.known.now.edges.clients c.remove.new.self c.insert.new.self c.args.child (Some c.in_ok-clients.clients) c.remove.ensures.updates.0 c.in_ok-insert.ensures.updates.0)
-    (λ z there. c.in_ok-clients.ensures z (subst (λ o. IsTrue (is_in_list (unwrap_or o []) z)) (sym c.in-Some.ensures.value) there))
+    let there : get nat_cmp c.args.known.now.edges.clients c.args.child ≡ Some c.in-Some.clients.now = sym c.get_mut.ensures.value ∙ ap option_copied_mut c.in-Some.is in
+    known_left rows p c.args.child c.args.known.now _ (Some c.trim.new.list) is refl ((c.get_mut.follows.holds c.trim.new.list).3 (ap is_some there)).0
+    (λ z here. c.in_ok-left.ensures z (subst (λ o. IsTrue (is_in_list (unwrap_or o []) z)) there here))

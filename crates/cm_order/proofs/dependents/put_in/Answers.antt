@@ -1,18 +1,25 @@
 use Rattle.std.proofs.Common.{◌≡◌, [], ◌∷◌, ◌++◌, Some, IsTrue, sym, ◌∙◌, ap, subst}
 use Rattle.std.specs.Prelude.{unwrap_or}
+use Rattle.std.specs.Option.{option_copied_mut, is_some}
 use Rattle.std.specs.Ordering.{nat_cmp}
 use Rattle.std.specs.BTreeMap.{get}
+use Rattle.std.proofs.lemmas.Result.{on_ok_weaker}
 use Rattle.cm_order.specs.Glances.{is_in_list}
-use Rattle.cm_order.proofs.levels.Lists.{listed_more, listed_last, same_number, put_back, lists_grow}
+use Rattle.cm_order.proofs.levels.Lists.{listed_more, listed_last, same_number, lists_grow}
 use Rattle.cm_order.proofs.dependents.put_in.Goals as goal
 
-pub returns : goal.returns
-returns c =
-    let old : c.unwrap_or-list.result ≡ unwrap_or (get nat_cmp c.args.lists.now c.args.key) [] = c.unwrap_or-list.ensures ∙ ap (λ l. unwrap_or c.remove.result l) c.new.ensures ∙ ap (λ o. unwrap_or o []) c.remove.ensures.value in
-    let list : c.push.new.self ≡ unwrap_or (get nat_cmp c.args.lists.now c.args.key) [] ++ c.args.item ∷ [] = c.in_ok-push.ensures.ok ∙ ap (λ l. l ++ c.args.item ∷ []) old in
-    record {
-      here = subst (λ o. IsTrue (is_in_list (unwrap_or o []) c.args.item)) (sym c.in_ok-insert.ensures.updates.1) (subst (λ l. IsTrue (is_in_list l c.args.item)) (sym list) (listed_last (unwrap_or (get nat_cmp c.args.lists.now c.args.key) []) c.args.item));
-      kept = lists_grow nat_cmp same_number c.args.lists.now c.insert.new.self c.args.key c.push.new.self
-          (put_back nat_cmp c.args.lists.now c.remove.new.self c.insert.new.self c.args.key (Some c.push.new.self) c.remove.ensures.updates.0 c.in_ok-insert.ensures.updates.0)
-          (λ z there. subst (λ l. IsTrue (is_in_list l z)) (sym list) (listed_more (unwrap_or (get nat_cmp c.args.lists.now c.args.key) []) c.args.item z there));
-    }
+pub returns-in-Some-clause-here : goal.returns-in-Some-clause-here
+returns-in-Some-clause-here c =
+    let there : get nat_cmp c.args.lists.now c.args.key ≡ Some c.in-Some.list.now = sym c.get_mut.ensures.value ∙ ap option_copied_mut c.in-Some.is in
+    on_ok_weaker c.push.result
+    (λ pushed. subst (λ o. IsTrue (is_in_list (unwrap_or o []) c.args.item)) (sym ((c.get_mut.follows.holds c.push.new.self).3 (ap is_some there)).1)
+    (subst (λ l. IsTrue (is_in_list l c.args.item)) (sym pushed) (listed_last c.in-Some.list.now c.args.item)))
+    c.push.ensures.ok
+
+pub returns-in-Some-clause-kept : goal.returns-in-Some-clause-kept
+returns-in-Some-clause-kept c =
+    let there : get nat_cmp c.args.lists.now c.args.key ≡ Some c.in-Some.list.now = sym c.get_mut.ensures.value ∙ ap option_copied_mut c.in-Some.is in
+    on_ok_weaker c.push.result
+    (λ pushed. lists_grow nat_cmp same_number c.args.lists.now (c.get_mut.follows.lender c.push.new.self) c.args.key c.push.new.self ((c.get_mut.follows.holds c.push.new.self).3 (ap is_some there)).0
+    (λ z here. subst (λ l. IsTrue (is_in_list l z)) (sym pushed) (listed_more c.in-Some.list.now c.args.item z (subst (λ o. IsTrue (is_in_list (unwrap_or o []) z)) there here))))
+    c.push.ensures.ok

@@ -1,5 +1,5 @@
 use Rattle.cm_order.proofs.levels.Glancing.{free_unlisted}
-use Rattle.cm_order.proofs.clearing.is_open.Goals as goal
+use Rattle.cm_order.proofs.clearing.is_open_child.Goals as goal
 
 pub settle-requires-clause-free : goal.settle-requires-clause-free
 settle-requires-clause-free g c =
