@@ -95,6 +95,26 @@ fn interpolated(blocks: &[RowBlock], inc: u64) -> usize
     (last - 2).min(share as usize) + 2
 }
 
+/// About where the block of that incarnation stands, by how far it lies from the first slot of the block at
+/// this place: exactly there where each incarnation between the two has a slot, and the blocks between have
+/// as many slots as that one.
+fn corrected(blocks: &[RowBlock], place: usize, inc: u64) -> usize
+    ensures { result ≤ length blocks.now }
+{
+    let Some(block) = blocks.get(place) else {
+        return 0;
+    };
+    let size = (block.slots.len() as u64).max(1);
+    let first = first_of(block);
+    if inc < first {
+        return place
+            .saturating_sub((first - inc).div_ceil(size) as usize)
+            .min(blocks.len());
+    }
+    let further = (inc - first) / size;
+    place.saturating_add(further as usize).min(blocks.len())
+}
+
 /// The place of the block that the slot of that incarnation stands in, where that is this place or
 /// the next one.
 fn near(blocks: &[RowBlock], place: usize, inc: u64) -> Option<usize>
@@ -184,7 +204,11 @@ fn place_in(blocks: &[RowBlock], inc: u64) -> Option<usize>
     ensures { MatchOption result (slot_of (flat blocks.now) inc ≡ None)
         (λ place. IsPlace inc_of slots_in blocks.now inc (suc place)) }
 {
-    if let Some(place) = near(blocks, interpolated(blocks, inc), inc) {
+    let first = interpolated(blocks, inc);
+    if let Some(place) = near(blocks, first, inc) {
+        return Some(place);
+    }
+    if let Some(place) = near(blocks, corrected(blocks, first, inc), inc) {
         return Some(place);
     }
     let count = blocks_upto(blocks, inc);
@@ -224,14 +248,17 @@ fn dense_in(blocks: &[RowBlock], place: usize, inc: u64) -> Option<&Slot>
     }
 }
 
-/// The slot of that incarnation, wherever it stands.
+/// The slot of that incarnation, wherever it stands. The block is looked for from this place on.
 #[cold]
 #[inline(never)]
-fn slot_anywhere(blocks: &[RowBlock], inc: u64) -> Option<&Slot>
+fn slot_anywhere(blocks: &[RowBlock], place: usize, inc: u64) -> Option<&Slot>
     requires filled { Filled slots_in blocks.now }
     requires increasing { Increasing inc_of (flat blocks.now) }
     ensures { option_copied result ≡ slot_of (flat blocks.now) inc }
 {
+    if let Some(slot) = dense_in(blocks, corrected(blocks, place, inc), inc) {
+        return Some(slot);
+    }
     match place_in(blocks, inc) {
         None => None,
         Some(place) => slot_at(blocks[place].slots.as_slice(), inc),
@@ -245,10 +272,11 @@ pub fn slot_in(blocks: &[RowBlock], inc: u64) -> Option<&Slot>
     requires increasing { Increasing inc_of (flat blocks.now) }
     ensures { option_copied result ≡ slot_of (flat blocks.now) inc }
 {
-    if let Some(slot) = dense_in(blocks, interpolated(blocks, inc), inc) {
+    let place = interpolated(blocks, inc);
+    if let Some(slot) = dense_in(blocks, place, inc) {
         return Some(slot);
     }
-    slot_anywhere(blocks, inc)
+    slot_anywhere(blocks, place, inc)
 }
 
 // ---- changes of rows

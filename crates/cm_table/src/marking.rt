@@ -79,6 +79,9 @@ fn open_child(
     if let Some(child) = open_behind(blocks, kind, next, parent, after) {
         return Some(child);
     }
+    if after.is_none() {
+        return None;
+    }
     open_behind(blocks, kind, next, parent, None)
 }
 

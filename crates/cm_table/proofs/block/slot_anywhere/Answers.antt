@@ -7,10 +7,10 @@ use Rattle.cm_table.proofs.block.slot_anywhere.Goals as goal
 pub slot_at-requires : goal.slot_at-requires
 slot_at-requires c =
     subst (Increasing inc_of) (sym c.as_slice.ensures.value)
-    (part_increasing inc_of slots_in c.args.blocks.now c.in-Some.place c.index-blocks-place.result c.in-Some.ensures.bound c.requires.increasing)
+    (part_increasing inc_of slots_in c.args.blocks.now c.in-Some-place_in.place c.index-blocks-place.result c.in-Some-place_in.ensures.bound c.requires.increasing)
 
-pub returns-in-Some : goal.returns-in-Some
-returns-in-Some c =
+pub returns-in-Some-place_in : goal.returns-in-Some-place_in
+returns-in-Some-place_in c =
     c.slot_at.ensures
     ∙ ap (λ l. slot_of l c.args.inc) c.as_slice.ensures.value
-    ∙ sym (in_last inc_of slots_in c.args.blocks.now c.args.inc c.in-Some.place c.index-blocks-place.result c.requires.filled c.requires.increasing c.in-Some.ensures)
+    ∙ sym (in_last inc_of slots_in c.args.blocks.now c.args.inc c.in-Some-place_in.place c.index-blocks-place.result c.requires.filled c.requires.increasing c.in-Some-place_in.ensures)
