@@ -1,15 +1,11 @@
 -- These types hold monikers, and may go to other threads or be shared with them.
+use denote.Builtin as machine
 use denote.Param.Send as send
 use denote.Param.Send.{IsSend}
 use denote.Struct.Declared as struct
 use Rattle.std.proofs.Crossing.{Vec-send}
 use Rattle.cm_names.proofs.Crossing.{moniker_send}
-use Rattle.cm_names.proofs.child.ChildName.TheSendSync as child_name
 use Rattle.cm_names.proofs.list.List.TheSendSync as list
-use Rattle.cm_names.specs.contracts.child.ChildName
-use Rattle.cm_names.specs.contracts.child.ChildNameOrd.TheImpl as name_order
-use Rattle.cm_names.specs.contracts.child.ChildNamePartialEq.TheImpl as name_equality
-use Rattle.cm_names.specs.contracts.child.ChildNamePartialOrd.TheImpl as name_partial_order
 use Rattle.cm_names.specs.contracts.moniker.Moniker
 use Rattle.cm_table.proofs.marks.MarksAbove.TheSendSync as marks_above
 use Rattle.cm_table.proofs.ordered.OrderedRow.TheSendSync as ordered_row
@@ -28,6 +24,9 @@ use Rattle.std.proofs.option.Option.TheSendSync as option
 use Rattle.std.specs.contracts.alloc.Global
 use Rattle.std.specs.contracts.collections.BTreeSet
 use Rattle.std.specs.contracts.impls.GlobalAllocator.TheImpl as heap_impl
+use Rattle.std.specs.contracts.prelude.U64Ord.TheImpl as number_order
+use Rattle.std.specs.contracts.prelude.U64PartialEq.TheImpl as number_equality
+use Rattle.std.specs.contracts.prelude.U64PartialOrd.TheImpl as number_partial_order
 
 pub slot_field_send : IsSend (Slot.the_field).row
 slot_field_send = send.struct_send (struct.shape Slot.the_type) (
@@ -51,9 +50,9 @@ pub row_block_send : IsSend RowBlock.the_row
 row_block_send = send.recorded_send (RowBlock.the_field).row _ _ (RowBlock.the_type).to_one
     row_block_field_send
 
-wanted_send : IsSend (BTreeSet.the_row ChildName.the_row Global.the_row name_order.ghosts name_equality.ghosts name_partial_order.ghosts heap_impl.ghosts)
-wanted_send = set.the_send ChildName.the_row Global.the_row name_order.ghosts name_equality.ghosts
-    name_partial_order.ghosts heap_impl.ghosts child_name.the_send global.the_send heap.the_frees
+wanted_send : IsSend (BTreeSet.the_row machine.u64 Global.the_row number_order.ghosts number_equality.ghosts number_partial_order.ghosts heap_impl.ghosts)
+wanted_send = set.the_send machine.u64 Global.the_row number_order.ghosts number_equality.ghosts
+    number_partial_order.ghosts heap_impl.ghosts (send.plain_send _ _ _ _ _) global.the_send heap.the_frees
 
 pub table_send : IsSend Table.the_row
 table_send = send.view_send TableInside.the_row _ _ _ _ (send.recorded_send (TableInside.the_field).row _ _

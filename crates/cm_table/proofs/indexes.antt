@@ -3,3 +3,4 @@ pub mod Indexing
 pub mod Naming
 pub mod Preparing
 pub mod Told
+pub mod Words

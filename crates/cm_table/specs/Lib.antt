@@ -5,6 +5,7 @@ pub mod Offers
 pub mod Named
 pub mod Uses
 pub mod Names
+pub mod ByName
 pub mod Keys
 pub mod Slots
 pub mod Links

@@ -1,12 +1,11 @@
 -- Inside.
 -- How a prepared declaration keeps what a resolve takes over.
 use Rattle.std.specs.Prelude.{◌≡◌, map}
-use Rattle.std.specs.BTreeMap.{get}
 use Rattle.cm_names.specs.declared.child.ChildName.{ChildName}
 use Rattle.cm_decl.specs.Valid.{IsValid}
 use Rattle.cm_world.specs.Rows.{child_of}
 use Rattle.cm_world.specs.End.{child_row, child_rows}
-use Rattle.cm_table.specs.Names.{child_cmp}
+use Rattle.cm_table.specs.ByName.{led_to}
 use Rattle.cm_table.specs.Ready.{Ready}
 use Rattle.cm_table.specs.Keys.{EachItem}
 use Rattle.cm_table.specs.Slots.{rows_in}
@@ -29,4 +28,4 @@ pub record IsPrepared (a : Inside) : Type 0 where
   pub bare : EachItem IsBare a.children.items
   pub own : EachItem HasOwnName a.children.items
   pub kids : a.index.kids.items ≡ map (λ r. r.inc) (child_rows 0 0 a.decl.children)
-  pub names : (c : ChildName) → get child_cmp a.index.names c ≡ child_of (child_rows 0 0 a.decl.children) 0 c
+  pub names : (c : ChildName) → led_to a.index.names c ≡ child_of (child_rows 0 0 a.decl.children) 0 c

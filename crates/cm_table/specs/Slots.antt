@@ -4,7 +4,6 @@
 use Rattle.std.specs.Prelude.{◌≡◌, ℕ, ◌≤◌, ◌+◌, ◌==◌, List, [], Option, Some, None, find, filter, map}
 use Rattle.std.specs.Prelude.{option_map}
 use Rattle.std.specs.List.{flat_map}
-use Rattle.std.specs.BTreeMap.{get}
 use Rattle.cm_names.specs.declared.child.ChildName.{ChildName}
 use Rattle.cm_world.specs.declared.row.Row.{Row}
 use Rattle.cm_world.specs.Rows.{has_parent, child_of}
@@ -12,7 +11,7 @@ use Rattle.cm_world.specs.Sound.{IsOrderly}
 use Rattle.cm_table.specs.declared.slot.Slot.{Slot}
 use Rattle.cm_table.specs.declared.slot.ChildIndex.{ChildIndex}
 use Rattle.cm_table.specs.declared.block.RowBlock.{RowBlock}
-use Rattle.cm_table.specs.Names.{child_cmp}
+use Rattle.cm_table.specs.ByName.{led_to}
 use Rattle.cm_table.specs.Keys.{EachItem}
 
 -- ---- slots
@@ -53,7 +52,7 @@ kids_at x = map (λ k. x.base + k) x.kids.items
 
 -- the incarnation of the child that an index has by this name
 abbrev pub named_at : ChildIndex → ChildName → Option ℕ
-named_at x c = option_map (λ k. x.base + k) (get child_cmp x.names c)
+named_at x c = option_map (λ k. x.base + k) (led_to x.names c)
 
 -- the incarnations of the children, by an index that may be missing where there are none
 abbrev pub kids_of : Option ChildIndex → List ℕ

@@ -17,7 +17,8 @@
 //! kinds, each in a logarithm of their number, since an order of them is made before the declaration is
 //! taken over. A resolve takes no memory and goes through the children that it brings; a removal goes
 //! down by last children, and takes a logarithm for each row, and the time to close the gap in the
-//! lists. Names are kept by an order and not by a hash: no choice of names can make a look-up slow.
+//! lists. A name is found by a word that is made of it, and where another name has that word, by the order of
+//! names: no choice of names can make a look-up slower than that order is.
 //!
 //! Each row keeps which marks it and those above it have, and the names from the root down to it. So
 //! whether an instance is gone, and where it stands, is told by one look, at any depth. A mark goes to
@@ -25,6 +26,7 @@
 #![tactic(auto)]
 
 mod block;
+mod by_name;
 mod change;
 mod links;
 mod marking;

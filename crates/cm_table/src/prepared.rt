@@ -2,13 +2,12 @@
 
 ghost use Rattle.std.specs.Prelude.{◌≡◌, ◌+◌, ◌<◌, ◌^◌, length, IfOk, IfSome, Some, map, None};
 ghost use Rattle.std.specs.Prelude.{option_to_list};
-ghost use Rattle.std.specs.BTreeMap.{get};
 ghost use Rattle.cm_names.specs.declared.child.ChildName.{ChildName as Name};
 ghost use Rattle.cm_decl.specs.Graph.{static_name};
 ghost use Rattle.cm_decl.specs.Valid.{IsValid};
 ghost use Rattle.cm_world.specs.Rows.{child_of};
 ghost use Rattle.cm_world.specs.End.{child_row, child_rows};
-ghost use Rattle.cm_table.specs.Names.{child_cmp};
+ghost use Rattle.cm_table.specs.ByName.{led_to};
 ghost use Rattle.cm_table.specs.Keys.{EachItem};
 ghost use Rattle.cm_table.specs.Slots.{rows_in, kids_at, named_at};
 ghost use Rattle.cm_table.specs.Monikers.{HasOwnName, IsMonikerBelow, IsHung, unhung};
@@ -203,7 +202,7 @@ fn made_for(alloc: Global, absolute: &Text, decl: &OrderedDecl) -> Result<Made, 
     ensures decl { IfOk result (λ made. made.kept_decl ≡ decl.now) }
     ensures kids { IfOk result (λ made. made.index.kids.items
         ≡ map (λ r. r.inc) (child_rows 0 0 decl.now.children)) }
-    ensures names { IfOk result (λ made. (c : Name) → get child_cmp made.index.names c
+    ensures names { IfOk result (λ made. (c : Name) → led_to made.index.names c
         ≡ child_of (child_rows 0 0 decl.now.children) 0 c) }
     ensures rows { IfOk result (λ made. rows_in made.children.items
         ≡ map (child_row 0 0) decl.now.children) }
@@ -292,7 +291,7 @@ fn index_of(alloc: Global, decl: &Decl) -> Result<ChildIndex, Memory>
     requires { IsValid decl.now }
     ensures kids { IfOk result (λ made. made.kids.items
         ≡ map (λ r. r.inc) (child_rows 0 0 decl.now.children)) }
-    ensures names { IfOk result (λ made. (c : Name) → get child_cmp made.names c
+    ensures names { IfOk result (λ made. (c : Name) → led_to made.names c
         ≡ child_of (child_rows 0 0 decl.now.children) 0 c) }
 {
     let children = decl.children.as_slice();

@@ -2,21 +2,21 @@
 
 ghost use Rattle.std.specs.Prelude.{◌≡◌, ◌-◌, ◌<◌, ◌^◌, ◌++◌, ◌∷◌, ◌==◌, [], true, None, Some};
 ghost use Rattle.std.specs.Prelude.{ℕ, find, length, if◌then◌else◌, OnOk, OnErr, IfSome};
-ghost use Rattle.std.specs.BTreeMap.{get};
 ghost use Rattle.cm_names.specs.declared.child.ChildName.{ChildName as Name};
 ghost use Rattle.cm_decl.specs.Same.{same_child};
 ghost use Rattle.cm_world.specs.Edits.{drop_first};
 ghost use Rattle.cm_world.specs.RowsInside.{is_behind};
-ghost use Rattle.cm_table.specs.Names.{child_cmp};
+ghost use Rattle.cm_table.specs.ByName.{led_to};
 ghost use Rattle.cm_table.specs.Keys.{EachItem, IsPlace, Increasing, alone, nth};
 ghost use Rattle.cm_table.specs.Slots.{kids_at, named_at, kids_of, named_in};
 ghost use Rattle.cm_table.specs.Links.{unless, Rises};
 
+use crate::by_name::ChildrenByName;
 use crate::marks::MarksAbove;
 use crate::ordered::OrderedRow;
 use cm_names::{ChildName, Memory, Moniker};
 use std::alloc::Global;
-use std::collections::{BTreeMap, VecDeque};
+use std::collections::VecDeque;
 
 /// The index of the children of a row. Their incarnations are told by how far they are above a
 /// base.
@@ -28,7 +28,7 @@ pub struct ChildIndex {
     /// shorter side moves: so children that go in the order in which they came, or last first, move none.
     pub kids: VecDeque<u64>,
     /// Those that aren't being destroyed, by their names.
-    pub names: BTreeMap<ChildName, u64>,
+    pub names: ChildrenByName,
 }
 
 /// A row with the index of its children, if it ever had one, the marks that it and those above it have,
@@ -61,10 +61,11 @@ impl ChildIndex {
         ensures kids { kids_at result ≡ [] }
         ensures names { (c : Name) → named_at result c ≡ None }
     {
+        let names = ChildrenByName::new(alloc);
         ChildIndex {
             base: 0,
             kids: VecDeque::new(alloc),
-            names: BTreeMap::new(alloc),
+            names,
         }
     }
 
@@ -75,7 +76,7 @@ impl ChildIndex {
     {
         match self.names.get(name) {
             None => None,
-            Some(above) => Some(self.base + *above),
+            Some(above) => Some(self.base + above),
         }
     }
 
@@ -133,30 +134,30 @@ impl ChildIndex {
     pub fn put(&mut self, name: ChildName, above: u64) -> Result<(), Memory>
         ensures base { self.new.base ≡ self.old.base }
         ensures kids { OnOk result (self.new.kids.items ≡ self.old.kids.items ++ above ∷ []) }
-        ensures names { OnOk result ((c : Name) → get child_cmp self.new.names c
-            ≡ (if same_child name c then Some above else get child_cmp self.old.names c)) }
+        ensures names { OnOk result ((c : Name) → led_to self.new.names c
+            ≡ (if same_child name c then Some above else led_to self.old.names c)) }
         ensures kids_err { OnErr result (self.new.kids.items ≡ self.old.kids.items) }
-        ensures names_err { OnErr result ((c : Name) → get child_cmp self.new.names c
-            ≡ get child_cmp self.old.names c) }
+        ensures names_err { OnErr result ((c : Name) → led_to self.new.names c
+            ≡ led_to self.old.names c) }
     {
         self.kids.reserve(1)?;
-        self.names.insert(name, above)?;
+        self.names.put(name, above)?;
         self.kids.push_back_reserved(above);
         Ok(())
     }
 
     /// Forgets a name, if it leads so far above the base.
     pub fn forget(&mut self, name: &ChildName, above: u64)
-        requires { (c : Name) → get child_cmp self.old.names c ≡ Some above → same_child name.now c ≡ true }
+        requires { (c : Name) → led_to self.old.names c ≡ Some above → same_child name.now c ≡ true }
         ensures base { self.new.base ≡ self.old.base }
         ensures kids { self.new.kids.items ≡ self.old.kids.items }
-        ensures names { (c : Name) → get child_cmp self.new.names c
-            ≡ unless above (get child_cmp self.old.names c) }
+        ensures names { (c : Name) → led_to self.new.names c
+            ≡ unless above (led_to self.old.names c) }
     {
         match self.names.get(name) {
             None => {}
             Some(found) => {
-                if *found == above {
+                if found == above {
                     self.names.remove(name);
                 }
             }

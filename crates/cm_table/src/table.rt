@@ -74,7 +74,7 @@ pub struct Table {
     next_inc: u64,
     limit: u32,
     spare: u32,
-    pub(crate) wanted: BTreeSet<ChildName>,
+    pub(crate) wanted: BTreeSet<u64>,
 }
 
 impl Model for Table {

@@ -7,6 +7,7 @@ ghost use Rattle.cm_world.specs.Rows as told;
 ghost use Rattle.cm_world.specs.RowsInside as told_inside;
 ghost use Rattle.cm_world.specs.Offering.{offer_for};
 
+use crate::by_name::word_of;
 use crate::reading::{is_that, told_index};
 use crate::slot::{child_in, next_in};
 use crate::table::Table;
@@ -147,7 +148,7 @@ impl View for Table {
 
     /// Whether the name is among those from which something given at a creation may come strongly.
     fn is_wanted(&self, name: &ChildName) -> bool {
-        self.wanted.contains(name)
+        self.wanted.contains(&word_of(name))
     }
 
     /// The first of the realm's built-in capabilities that has that kind and name.

@@ -1,4 +1,5 @@
-//! The names of the children that others were given something from, strongly, when they were created.
+//! The names of the children that others were given something from, strongly, when they were created. They
+//! are kept as words, which other names may have, too.
 
 ghost use Rattle.std.specs.Prelude.{◌≡◌, false, OnOk};
 ghost use Rattle.std.specs.Option.{option_copied, option_map_or};
@@ -8,13 +9,14 @@ ghost use Rattle.cm_decl.specs.Same.{same_child};
 ghost use Rattle.cm_world.specs.RowsInside.{comes_from};
 ghost use Rattle.cm_table.specs.Wanted.{has_name, HasNamesOf, HasSourcesOf};
 
+use crate::by_name::word_of;
 use cm_decl::{Give, Origin};
 use cm_names::{ChildName, Dependency, Memory};
 use std::collections::BTreeSet;
 
-/// Puts the names of the children that these strongly come from into the set. `Err` where memory
+/// Puts the words of the children that these strongly come from into the set. `Err` where memory
 /// runs out: then some of them may be in it.
-pub fn want_all(wanted: &mut BTreeSet<ChildName>, gives: &[Give]) -> Result<(), Memory>
+pub fn want_all(wanted: &mut BTreeSet<u64>, gives: &[Give]) -> Result<(), Memory>
     ensures keeps { HasNamesOf wanted.old wanted.new }
     ensures sources { OnOk result (HasSourcesOf gives.now wanted.new) }
 {
@@ -24,9 +26,9 @@ pub fn want_all(wanted: &mut BTreeSet<ChildName>, gives: &[Give]) -> Result<(), 
     Ok(())
 }
 
-/// Puts the name of the child that this strongly comes from into the set, if it comes from one.
+/// Puts the word of the child that this strongly comes from into the set, if it comes from one.
 /// `Err` where memory runs out: then nothing is changed.
-fn want(wanted: &mut BTreeSet<ChildName>, give: &Give) -> Result<(), Memory>
+fn want(wanted: &mut BTreeSet<u64>, give: &Give) -> Result<(), Memory>
     ensures keeps { HasNamesOf wanted.old wanted.new }
     ensures source { OnOk result ((c : Name) → has_name wanted.new c ≡ false
         → comes_from c give.now ≡ false) }
@@ -58,13 +60,12 @@ fn is_strong(dependency: Dependency) -> bool
     dependency == Dependency::Strong
 }
 
-/// Puts a name into the set. `Err` where memory runs out: then nothing is changed.
-fn put_name(wanted: &mut BTreeSet<ChildName>, name: &ChildName) -> Result<(), Memory>
+/// Puts the word of a name into the set. `Err` where memory runs out: then nothing is changed.
+fn put_name(wanted: &mut BTreeSet<u64>, name: &ChildName) -> Result<(), Memory>
     ensures keeps { HasNamesOf wanted.old wanted.new }
     ensures own { OnOk result ((c : Name) → has_name wanted.new c ≡ false
         → same_child name.now c ≡ false) }
 {
-    let name = name.clone()?;
-    wanted.insert(name)?;
+    wanted.insert(word_of(name))?;
     Ok(())
 }

@@ -16,6 +16,8 @@ use Rattle.cm_world.specs.RowsInside.{is_behind}
 use Rattle.cm_table.specs.declared.slot.ChildIndex.{ChildIndex}
 use Rattle.cm_table.specs.Slots.{kids_at, named_at}
 use Rattle.cm_table.specs.Names.{child_cmp}
+use Rattle.cm_table.specs.ByName.{led_to}
+use Rattle.cm_table.specs.declared.by_name.ChildrenByName.{ChildrenByName}
 use Rattle.cm_table.specs.Keys.{nth}
 use Rattle.cm_table.specs.Links.{unless}
 use Rattle.cm_table.proofs.indexes.Indexing.{unless_other}
@@ -37,17 +39,17 @@ names_tie a b =
 pub put_name : (m n : BTreeMap ChildName ℕ) (name : ChildName) (a : ℕ) → ((q : ChildName) → get child_cmp n q ≡ cond (is_eq (child_cmp name q)) (Some a) (get child_cmp m q)) → (q : ChildName) → get child_cmp n q ≡ cond (same_child name q) (Some a) (get child_cmp m q)
 put_name m n name a puts q = puts q ∙ ap (λ b. cond b (Some a) (get child_cmp m q)) (names_tie name q)
 
-forget_by : (b : Bool) (m n : BTreeMap ChildName ℕ) (name : ChildName) (a : ℕ) (q : ChildName) → same_child name q ≡ b → get child_cmp n q ≡ cond (is_eq (child_cmp name q)) None (get child_cmp m q) → get child_cmp m name ≡ Some a → (get child_cmp m q ≡ Some a → same_child name q ≡ true) → get child_cmp n q ≡ unless a (get child_cmp m q)
+forget_by : (b : Bool) (m n : ChildrenByName) (name : ChildName) (a : ℕ) (q : ChildName) → same_child name q ≡ b → led_to n q ≡ cond (same_child name q) None (led_to m q) → led_to m name ≡ Some a → (led_to m q ≡ Some a → same_child name q ≡ true) → led_to n q ≡ unless a (led_to m q)
 forget_by true m n name a q same takes had only =
-    let is : get child_cmp m q ≡ Some a = ap (get child_cmp m) (sym (same_child_exact name q same)) ∙ had in
-    takes ∙ ap (λ b. cond b None (get child_cmp m q)) (names_tie name q ∙ same)
+    let is : led_to m q ≡ Some a = ap (led_to m) (sym (same_child_exact name q same)) ∙ had in
+    takes ∙ ap (λ b. cond b None (led_to m q)) same
     ∙ sym (ap (unless a) is ∙ ap (λ b. cond b None (Some a)) ((unsigned_Decides a a).1 refl))
 forget_by false m n name a q same takes had only =
-    takes ∙ ap (λ b. cond b None (get child_cmp m q)) (names_tie name q ∙ same)
-    ∙ sym (unless_other a (get child_cmp m q) (λ e. true≢false (sym (only e) ∙ same)))
+    takes ∙ ap (λ b. cond b None (led_to m q)) same
+    ∙ sym (unless_other a (led_to m q) (λ e. true≢false (sym (only e) ∙ same)))
 
 -- the name is taken out
-pub forgotten : (m n : BTreeMap ChildName ℕ) (name : ChildName) (a : ℕ) → ((q : ChildName) → get child_cmp n q ≡ cond (is_eq (child_cmp name q)) None (get child_cmp m q)) → get child_cmp m name ≡ Some a → ((q : ChildName) → get child_cmp m q ≡ Some a → same_child name q ≡ true) → (q : ChildName) → get child_cmp n q ≡ unless a (get child_cmp m q)
+pub forgotten : (m n : ChildrenByName) (name : ChildName) (a : ℕ) → ((q : ChildName) → led_to n q ≡ cond (same_child name q) None (led_to m q)) → led_to m name ≡ Some a → ((q : ChildName) → led_to m q ≡ Some a → same_child name q ≡ true) → (q : ChildName) → led_to n q ≡ unless a (led_to m q)
 forgotten m n name a takes had only q = forget_by (same_child name q) m n name a q refl (takes q) had (only q)
 
 -- ---- numbers above a base
@@ -110,5 +112,5 @@ remove_kids x y same above inc sum e =
     ap₂ (λ b l. map (λ k. b + k) l) same e ∙ drop_above x.base above x.kids.items ∙ ap (λ n. drop_first (λ k. k == n) (kids_at x)) sum
 
 -- what leads to an incarnation leads as far above the base
-pub leads_above : (x : ChildIndex) (i above : ℕ) (c : ChildName) → x.base + above ≡ i → get child_cmp x.names c ≡ Some above → named_at x c ≡ Some i
+pub leads_above : (x : ChildIndex) (i above : ℕ) (c : ChildName) → x.base + above ≡ i → led_to x.names c ≡ Some above → named_at x c ≡ Some i
 leads_above x i above c sum e = ap (option_map (λ k. x.base + k)) e ∙ ap Some sum

@@ -1,7 +1,8 @@
 -- What is known of the names that strong gives name, behind each change of the rows.
 use Rattle.std.proofs.Common.{◌≡◌, ℕ, ◌+◌, ◌<◌, ◌≤◌, List, [], ◌∷◌, ◌++◌, Bool, true, false, cond, ◌==◌, ◌&&◌, not, true≢false, Option, Some, None, IsTrue, take, length, get_or, is_eq, refl, sym, ap, ◌∙◌, subst}
 use Rattle.std.specs.List.{list_all}
-use Rattle.std.specs.BTreeSet.{BTreeSet}
+use Rattle.std.specs.Ordering.{nat_cmp}
+use Rattle.std.specs.BTreeSet.{BTreeSet, contains}
 use Rattle.std.proofs.lemmas.Bool.{and_from as and_pair}
 use Rattle.std.proofs.lemmas.List.{take_all}
 use Rattle.std.proofs.lemmas.List.Folds.{list_all-append, list_all_more}
@@ -18,10 +19,10 @@ use Rattle.cm_world.specs.RowsInside.{comes_from, wants_none, IsUnwanted}
 use Rattle.cm_table.specs.declared.change.Change.{Change}
 use Rattle.cm_table.specs.declared.change.Change.TheVariants.{On, Pending, Closing, Doomed, Shut, End, Resolve}
 use Rattle.cm_table.specs.Change.{change_row}
-use Rattle.cm_table.specs.Names.{child_cmp}
+use Rattle.cm_table.specs.ByName.{word_of}
 use Rattle.cm_table.specs.Wanted.{has_name, HasNamesOf, HasSourcesOf, KnowsWanted}
 use Rattle.cm_table.proofs.tree.Leaves.{without}
-use Rattle.cm_table.proofs.indexes.Naming.{names_tie}
+use Rattle.cm_table.proofs.indexes.Words.{apart}
 
 abbrev plain : ChildName → Row → Bool
 plain c r = wants_none c r.gives
@@ -70,31 +71,31 @@ plain_more c xs ys first second = list_all-append (plain c) xs ys ∙ and_pair (
 
 -- ---- what is known
 
-pub known_changed : (set : BTreeSet ChildName) (i : ℕ) (f : Row → Row) → ((r : Row) → (f r).gives ≡ r.gives) → (rows new : List Row) → new ≡ changed i f rows → KnowsWanted rows set → KnowsWanted new set
+pub known_changed : (set : BTreeSet ℕ) (i : ℕ) (f : Row → Row) → ((r : Row) → (f r).gives ≡ r.gives) → (rows new : List Row) → new ≡ changed i f rows → KnowsWanted rows set → KnowsWanted new set
 known_changed set i f same rows new is known = record {
   none = λ c lacks. subst (λ rs. IsUnwanted rs c) (sym is) (plain_changed c i f same rows ∙ known.none c lacks);
 }
 
-pub known_without : (set : BTreeSet ChildName) (i : ℕ) (rows new : List Row) → new ≡ without i rows → KnowsWanted rows set → KnowsWanted new set
+pub known_without : (set : BTreeSet ℕ) (i : ℕ) (rows new : List Row) → new ≡ without i rows → KnowsWanted rows set → KnowsWanted new set
 known_without set i rows new is known = record {
   none = λ c lacks. subst (λ rs. IsUnwanted rs c) (sym is) (plain_without c i rows (known.none c lacks));
 }
 
 -- with declared children
-pub known_grown : (set : BTreeSet ChildName) (i p next : ℕ) (ks : List DeclaredChild) (f : Row → Row) → ((r : Row) → (f r).gives ≡ r.gives) → (rows new : List Row) → new ≡ changed i f rows ++ child_rows p next ks → KnowsWanted rows set → KnowsWanted new set
+pub known_grown : (set : BTreeSet ℕ) (i p next : ℕ) (ks : List DeclaredChild) (f : Row → Row) → ((r : Row) → (f r).gives ≡ r.gives) → (rows new : List Row) → new ≡ changed i f rows ++ child_rows p next ks → KnowsWanted rows set → KnowsWanted new set
 known_grown set i p next ks f same rows new is known = record {
   none = λ c lacks. subst (λ rs. IsUnwanted rs c) (sym is)
       (plain_more c (changed i f rows) (child_rows p next ks) (plain_changed c i f same rows ∙ known.none c lacks) (plain_children c p next ks));
 }
 
 -- with more names
-pub known_wider : (old set : BTreeSet ChildName) (rows new : List Row) → new ≡ rows → HasNamesOf old set → KnowsWanted rows old → KnowsWanted new set
+pub known_wider : (old set : BTreeSet ℕ) (rows new : List Row) → new ≡ rows → HasNamesOf old set → KnowsWanted rows old → KnowsWanted new set
 known_wider old set rows new is wider known = record {
   none = λ c lacks. subst (λ rs. IsUnwanted rs c) (sym is) (known.none c (wider c lacks));
 }
 
 -- with one row more, whose sources the set has
-pub known_added : (old set : BTreeSet ChildName) (rows new : List Row) (r : Row) (gives : List Give) → new ≡ rows ++ r ∷ [] → r.gives ≡ gives → HasNamesOf old set → HasSourcesOf gives set → KnowsWanted rows old → KnowsWanted new set
+pub known_added : (old set : BTreeSet ℕ) (rows new : List Row) (r : Row) (gives : List Give) → new ≡ rows ++ r ∷ [] → r.gives ≡ gives → HasNamesOf old set → HasSourcesOf gives set → KnowsWanted rows old → KnowsWanted new set
 known_added old set rows new r gives is own wider sources known = record {
   none = λ c lacks. subst (λ rs. IsUnwanted rs c) (sym is)
       (plain_more c rows (r ∷ []) (known.none c (wider c lacks))
@@ -107,24 +108,24 @@ true_or : (b c : Bool) → cond b true c ≡ false → (b ≡ false) × (c ≡ f
 true_or true c e = absurd (true≢false e)
 true_or false c e = (refl, e)
 
--- a name more
-pub put_keeps : (old new : BTreeSet ChildName) (name : ChildName) → ((q : ChildName) → has_name new q ≡ cond (is_eq (child_cmp name q)) true (has_name old q)) → HasNamesOf old new
-put_keeps old new name puts c lacks = (true_or (is_eq (child_cmp name c)) (has_name old c) (sym (puts c) ∙ lacks)).1
+-- a word more
+pub put_keeps : (old new : BTreeSet ℕ) (word : ℕ) → ((q : ℕ) → contains nat_cmp new q ≡ cond (is_eq (nat_cmp word q)) true (contains nat_cmp old q)) → HasNamesOf old new
+put_keeps old new word puts c lacks = (true_or (is_eq (nat_cmp word (word_of c))) (has_name old c) (sym (puts (word_of c)) ∙ lacks)).1
 
-pub put_own : (old new : BTreeSet ChildName) (name : ChildName) → ((q : ChildName) → has_name new q ≡ cond (is_eq (child_cmp name q)) true (has_name old q)) → (c : ChildName) → has_name new c ≡ false → same_child name c ≡ false
-put_own old new name puts c lacks = sym (names_tie name c) ∙ (true_or (is_eq (child_cmp name c)) (has_name old c) (sym (puts c) ∙ lacks)).0
+pub put_own : (old new : BTreeSet ℕ) (name : ChildName) → ((q : ℕ) → contains nat_cmp new q ≡ cond (is_eq (nat_cmp (word_of name) q)) true (contains nat_cmp old q)) → (c : ChildName) → has_name new c ≡ false → same_child name c ≡ false
+put_own old new name puts c lacks = apart name c ((true_or (is_eq (nat_cmp (word_of name) (word_of c))) (has_name old c) (sym (puts (word_of c)) ∙ lacks)).0)
 
 -- the same keys
-pub same_keys : (old new : BTreeSet ChildName) → new.keys ≡ old.keys → HasNamesOf old new
+pub same_keys : (old new : BTreeSet ℕ) → new.keys ≡ old.keys → HasNamesOf old new
 same_keys old new same c lacks = ap (λ ks. has_name (record { keys = ks }) c) (sym same) ∙ lacks
 
 -- ---- the loop over gives
 
-pub record IsWanting (old new : BTreeSet ChildName) (gives : List Give) : Type 0 where
+pub record IsWanting (old new : BTreeSet ℕ) (gives : List Give) : Type 0 where
   pub keeps : HasNamesOf old new
   pub sources : HasSourcesOf gives new
 
-pub wanting_more : (old mid new : BTreeSet ChildName) (gives : List Give) (i : ℕ) (g : Give) → i < length gives → g ≡ get_or gives i g → IsWanting old mid (take i gives) → HasNamesOf mid new → ((c : ChildName) → has_name new c ≡ false → comes_from c g ≡ false) → IsWanting old new (take (i + 1) gives)
+pub wanting_more : (old mid new : BTreeSet ℕ) (gives : List Give) (i : ℕ) (g : Give) → i < length gives → g ≡ get_or gives i g → IsWanting old mid (take i gives) → HasNamesOf mid new → ((c : ChildName) → has_name new c ≡ false → comes_from c g ≡ false) → IsWanting old new (take (i + 1) gives)
 wanting_more old mid new gives i g low is so_far wider source = record {
   keeps = λ c lacks. so_far.keeps c (wider c lacks);
   sources = λ c lacks.
@@ -133,5 +134,5 @@ wanting_more old mid new gives i g low is so_far wider source = record {
       (ap not (ap (comes_from c) (sym is) ∙ source c lacks));
 }
 
-pub wanting_ends : (old new : BTreeSet ChildName) (gives : List Give) (i : ℕ) → length gives ≤ i → IsWanting old new (take i gives) → HasSourcesOf gives new
+pub wanting_ends : (old new : BTreeSet ℕ) (gives : List Give) (i : ℕ) → length gives ≤ i → IsWanting old new (take i gives) → HasSourcesOf gives new
 wanting_ends old new gives i long so_far = subst (λ gs. HasSourcesOf gs new) (take_all i gives long) so_far.sources
