@@ -1,6 +1,7 @@
 -- Inside.
 -- Children found by their names: the word of a name, and what an index leads to.
-use Rattle.std.specs.Prelude.{ℕ, ◌*◌, ◌%◌, ◌^◌, List, Bool, false, not, Option, None, Some, if◌then◌else◌, option_and_then, fold, bit_xor}
+use Rattle.std.specs.Prelude.{ℕ, ◌*◌, ◌%◌, ◌^◌, List, Bool, false, not, Option, None, Some, if◌then◌else◌}
+use Rattle.std.specs.Prelude.{option_and_then, fold, bit_xor}
 use Rattle.std.specs.Option.{option_map_or}
 use Rattle.std.specs.Ordering.{nat_cmp}
 use Rattle.std.specs.BTreeMap.{BTreeMap, get}
