@@ -4,6 +4,8 @@ pub mod LastTold
 pub mod Inside
 pub mod Rooms
 pub mod Steps
+pub mod Needs
+pub mod Requests
 pub mod Eager
 pub mod Reporting
 pub mod Expiring

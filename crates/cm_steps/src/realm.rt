@@ -1,6 +1,6 @@
 //! The realm.
 
-ghost use Rattle.std.specs.Prelude.{◌≡◌, ◌↔◌, [], false, Some, None, Err, IsTrue, IfOk, IfErr, OnOk, OnErr};
+ghost use Rattle.std.specs.Prelude.{◌≡◌, ◌↔◌, [], false, Some, None, IsTrue, IfOk, IfErr, OnOk, OnErr};
 ghost use Rattle.cm_world.specs.World.{start};
 ghost use Rattle.cm_world.specs.Begin.{begin_reply};
 ghost use Rattle.cm_world.specs.Reports.{exit_reply};
@@ -14,7 +14,8 @@ ghost use Rattle.cm_laws.specs.Story.{world_of, AddsEntry, entry_of};
 ghost use Rattle.cm_steps.specs.Asking.{may_ask, event_of as event_by};
 ghost use Rattle.cm_steps.specs.Tasks.{IsIdleAt};
 ghost use Rattle.cm_steps.specs.Answers.{BeginsOrWaits, ExitsBy};
-ghost use Rattle.cm_steps.specs.Steps.{RealmHasRoom, LacksRoom, RefusesStep, RefusesQuiet};
+ghost use Rattle.cm_steps.specs.Requests.{Steps};
+ghost use Rattle.cm_steps.specs.Steps.{RealmHasRoom, RefusesStep, RefusesQuiet};
 ghost use Rattle.cm_steps.specs.Steps.{WaitsToBegin, WaitsToExit};
 
 mod creating;
@@ -22,6 +23,7 @@ mod enabling;
 mod ends;
 mod marks;
 mod picking;
+mod stepping;
 
 use crate::asking::{Asking, RouteAnswer, answer, asks, event_of, reply_of, tell_found, use_reply};
 use crate::copies::copied;
@@ -31,9 +33,10 @@ use crate::records::Recorded;
 use crate::replies::beginning::{BeginAnswer, begin_answer};
 use crate::replies::finding::found;
 use crate::replies::opening::open_exposed_reply;
-use crate::replies::showing::{ExitAnswer, exit_answer, shown, tailed};
+use crate::replies::showing::{ExitAnswer, exit_answer, tailed};
+use crate::request::{EventRef, Request};
 use crate::rooms::{add_join, copy_in_room, make_room, next_action};
-use crate::told::{LastTold, list_told, survey_told};
+use crate::told::{LastTold, list_told};
 use cm_book::Book;
 use cm_cache::Keeper;
 use cm_laws::trees_stay_sound;
@@ -229,18 +232,14 @@ impl Realm {
         caller: u32,
         asking: Asking,
         inc: u64,
-        path: CapPath,
+        path: &CapPath,
     ) -> Result<Reply, NoStep>
         ensures step { IfOk result (λ reply.
-            AddsEntry self.old self.new caller (event_by asking inc path) reply) }
-        ensures room { OnOk result (RealmHasRoom self.old 1) }
-        ensures full { LacksRoom self.old 1 → result ≡ Err NoStep.HistoryFull }
+            AddsEntry self.old self.new caller (event_by asking inc path.now) reply) }
         ensures refused { IfErr result (RefusesQuiet self.old) }
         ensures err { OnErr result (self.new ≡ self.old) }
     {
-        if !self.has_room(1) {
-            return Err(NoStep::HistoryFull);
-        }
+        let path = path.clone()?;
         if asks(&self.table, asking, inc) {
             return self.answer(alloc, caller, asking, inc, path);
         }
@@ -288,16 +287,18 @@ impl Realm {
     /// - `HistoryFull` where one entry more doesn't fit, which is tried first;
     /// - `Memory` where memory runs out.
     pub fn find(&mut self, alloc: Global, caller: u32, moniker: Moniker) -> Result<Reply, NoStep>
+        ensures { Steps self.old self.new caller (Event.Find moniker) result }
+    {
+        self.step(alloc, caller, EventRef::Find(&moniker))
+    }
+
+    /// Makes the step of a find, where there is room.
+    fn find_at(&mut self, alloc: Global, caller: u32, moniker: Moniker) -> Result<Reply, NoStep>
         ensures step { IfOk result (λ reply.
             AddsEntry self.old self.new caller (Event.Find moniker) reply) }
-        ensures room { OnOk result (RealmHasRoom self.old 1) }
-        ensures full { LacksRoom self.old 1 → result ≡ Err NoStep.HistoryFull }
         ensures refused { IfErr result (RefusesQuiet self.old) }
         ensures err { OnErr result (self.new ≡ self.old) }
     {
-        if !self.has_room(1) {
-            return Err(NoStep::HistoryFull);
-        }
         trees_stay_sound();
         let reply = found(alloc, &self.table, &moniker)?;
         self.tell(caller, Event::Find(moniker), reply)
@@ -309,18 +310,9 @@ impl Realm {
     /// - `HistoryFull` where one entry more doesn't fit, which is tried first;
     /// - `Memory` where memory runs out.
     pub fn show(&mut self, alloc: Global, caller: u32, inc: u64) -> Result<Reply, NoStep>
-        ensures step { IfOk result (λ reply.
-            AddsEntry self.old self.new caller (Event.Show inc) reply) }
-        ensures room { OnOk result (RealmHasRoom self.old 1) }
-        ensures full { LacksRoom self.old 1 → result ≡ Err NoStep.HistoryFull }
-        ensures refused { IfErr result (RefusesQuiet self.old) }
-        ensures err { OnErr result (self.new ≡ self.old) }
+        ensures { Steps self.old self.new caller (Event.Show inc) result }
     {
-        if !self.has_room(1) {
-            return Err(NoStep::HistoryFull);
-        }
-        let reply = shown(alloc, &self.table, inc)?;
-        self.tell(caller, Event::Show(inc), reply)
+        self.step(alloc, caller, EventRef::Ask(Request::Show, inc))
     }
 
     /// Which children an instance has in the collection: `Listed` with those that aren't being
@@ -337,16 +329,25 @@ impl Realm {
         inc: u64,
         coll: Name,
     ) -> Result<Reply, NoStep>
+        ensures { Steps self.old self.new caller (Event.Listing inc coll) result }
+    {
+        self.step(alloc, caller, EventRef::Ask(Request::List(&coll), inc))
+    }
+
+    /// Makes the step of a listing, where there is room.
+    fn list_at(
+        &mut self,
+        alloc: Global,
+        caller: u32,
+        inc: u64,
+        coll: &Name,
+    ) -> Result<Reply, NoStep>
         ensures step { IfOk result (λ reply.
-            AddsEntry self.old self.new caller (Event.Listing inc coll) reply) }
-        ensures room { OnOk result (RealmHasRoom self.old 1) }
-        ensures full { LacksRoom self.old 1 → result ≡ Err NoStep.HistoryFull }
+            AddsEntry self.old self.new caller (Event.Listing inc coll.now) reply) }
         ensures refused { IfErr result (RefusesQuiet self.old) }
         ensures err { OnErr result (self.new ≡ self.old) }
     {
-        if !self.has_room(1) {
-            return Err(NoStep::HistoryFull);
-        }
+        let coll = coll.clone()?;
         let reply = list_told(alloc, &self.table, &mut self.records.last, inc, &coll)?;
         self.tell(caller, Event::Listing(inc, coll), reply)
     }
@@ -358,18 +359,9 @@ impl Realm {
     /// - `HistoryFull` where one entry more doesn't fit, which is tried first;
     /// - `Memory` where memory runs out.
     pub fn survey(&mut self, alloc: Global, caller: u32, inc: u64) -> Result<Reply, NoStep>
-        ensures step { IfOk result (λ reply.
-            AddsEntry self.old self.new caller (Event.Survey inc) reply) }
-        ensures room { OnOk result (RealmHasRoom self.old 1) }
-        ensures full { LacksRoom self.old 1 → result ≡ Err NoStep.HistoryFull }
-        ensures refused { IfErr result (RefusesQuiet self.old) }
-        ensures err { OnErr result (self.new ≡ self.old) }
+        ensures { Steps self.old self.new caller (Event.Survey inc) result }
     {
-        if !self.has_room(1) {
-            return Err(NoStep::HistoryFull);
-        }
-        let reply = survey_told(alloc, &self.table, &mut self.records.last, inc)?;
-        self.tell(caller, Event::Survey(inc), reply)
+        self.step(alloc, caller, EventRef::Ask(Request::Survey, inc))
     }
 
     /// How long the history is: `Tailed` with the number of entries before this one, or `Gone`
@@ -378,16 +370,19 @@ impl Realm {
     /// - `HistoryFull` where one entry more doesn't fit, which is tried first;
     /// - `Memory` where memory runs out.
     pub fn tail(&mut self, caller: u32, inc: u64, from: u64) -> Result<Reply, NoStep>
+        ensures { Steps self.old self.new caller (Event.Tail inc from) result }
+    {
+        let alloc = *self.acts.allocator();
+        self.step(alloc, caller, EventRef::Ask(Request::Tail(from), inc))
+    }
+
+    /// Makes the step of a tail, where there is room.
+    fn tail_at(&mut self, caller: u32, inc: u64, from: u64) -> Result<Reply, NoStep>
         ensures step { IfOk result (λ reply.
             AddsEntry self.old self.new caller (Event.Tail inc from) reply) }
-        ensures room { OnOk result (RealmHasRoom self.old 1) }
-        ensures full { LacksRoom self.old 1 → result ≡ Err NoStep.HistoryFull }
         ensures refused { IfErr result (RefusesQuiet self.old) }
         ensures err { OnErr result (self.new ≡ self.old) }
     {
-        if !self.has_room(1) {
-            return Err(NoStep::HistoryFull);
-        }
         let entries = self.records.book.entries().len() as u64;
         let reply = tailed(&self.table, inc, entries);
         self.tell(caller, Event::Tail(inc, from), reply)
@@ -406,14 +401,9 @@ impl Realm {
         inc: u64,
         path: CapPath,
     ) -> Result<Reply, NoStep>
-        ensures step { IfOk result (λ reply.
-            AddsEntry self.old self.new caller (Event.Route inc path) reply) }
-        ensures room { OnOk result (RealmHasRoom self.old 1) }
-        ensures full { LacksRoom self.old 1 → result ≡ Err NoStep.HistoryFull }
-        ensures refused { IfErr result (RefusesQuiet self.old) }
-        ensures err { OnErr result (self.new ≡ self.old) }
+        ensures { Steps self.old self.new caller (Event.Route inc path) result }
     {
-        self.ask(alloc, caller, Asking::Route, inc, path)
+        self.step(alloc, caller, EventRef::Ask(Request::Route(&path), inc))
     }
 
     /// Opens what an instance uses at the path: `Opened` with the route where the provider is
@@ -429,14 +419,9 @@ impl Realm {
         inc: u64,
         path: CapPath,
     ) -> Result<Reply, NoStep>
-        ensures step { IfOk result (λ reply.
-            AddsEntry self.old self.new caller (Event.OpenUse inc path) reply) }
-        ensures room { OnOk result (RealmHasRoom self.old 1) }
-        ensures full { LacksRoom self.old 1 → result ≡ Err NoStep.HistoryFull }
-        ensures refused { IfErr result (RefusesQuiet self.old) }
-        ensures err { OnErr result (self.new ≡ self.old) }
+        ensures { Steps self.old self.new caller (Event.OpenUse inc path) result }
     {
-        self.ask(alloc, caller, Asking::Opening, inc, path)
+        self.step(alloc, caller, EventRef::Ask(Request::OpenUse(&path), inc))
     }
 
     /// Opens what an instance exposes by the name, as `open_use`, but the instance needn't be
@@ -451,16 +436,25 @@ impl Realm {
         inc: u64,
         name: Name,
     ) -> Result<Reply, NoStep>
+        ensures { Steps self.old self.new caller (Event.OpenExposed inc name) result }
+    {
+        self.step(alloc, caller, EventRef::Ask(Request::OpenExposed(&name), inc))
+    }
+
+    /// Makes the step of an opening of what is exposed, where there is room.
+    fn open_exposed_at(
+        &mut self,
+        alloc: Global,
+        caller: u32,
+        inc: u64,
+        name: &Name,
+    ) -> Result<Reply, NoStep>
         ensures step { IfOk result (λ reply.
-            AddsEntry self.old self.new caller (Event.OpenExposed inc name) reply) }
-        ensures room { OnOk result (RealmHasRoom self.old 1) }
-        ensures full { LacksRoom self.old 1 → result ≡ Err NoStep.HistoryFull }
+            AddsEntry self.old self.new caller (Event.OpenExposed inc name.now) reply) }
         ensures refused { IfErr result (RefusesQuiet self.old) }
         ensures err { OnErr result (self.new ≡ self.old) }
     {
-        if !self.has_room(1) {
-            return Err(NoStep::HistoryFull);
-        }
+        let name = name.clone()?;
         let reply = open_exposed_reply(alloc, &self.table, inc, &name)?;
         self.tell(caller, Event::OpenExposed(inc, name), reply)
     }
@@ -481,17 +475,26 @@ impl Realm {
         kind: ActKind,
         inc: u64,
     ) -> Result<Reply, NoStep>
+        ensures { Steps self.old self.new caller (Event.Begin kind inc) result }
+    {
+        self.step(alloc, caller, EventRef::Ask(Request::Begin(kind), inc))
+    }
+
+    /// Makes the step of a begin, where there is room.
+    fn begin_at(
+        &mut self,
+        alloc: Global,
+        caller: u32,
+        kind: ActKind,
+        inc: u64,
+    ) -> Result<Reply, NoStep>
+        requires room { RealmHasRoom self.old 2 }
         ensures step { IfOk result (λ reply.
             AddsEntry self.old self.new caller (Event.Begin kind inc) reply) }
-        ensures room { OnOk result (RealmHasRoom self.old 2) }
-        ensures full { LacksRoom self.old 2 → result ≡ Err NoStep.HistoryFull }
         ensures refused { let waits = WaitsToBegin (world_of self.old) kind inc in
             IfErr result (RefusesStep self.old 2 waits) }
         ensures err { OnErr result (self.new ≡ self.old) }
     {
-        if !self.has_room(2) {
-            return Err(NoStep::HistoryFull);
-        }
         let next = next_action(self.acts.as_slice());
         let answer = begin_answer(alloc, &self.table, next, kind, inc)?;
         self.begin_by(caller, kind, inc, answer)
@@ -614,17 +617,20 @@ impl Realm {
     /// - `HistoryFull` where one entry more doesn't fit, which is tried first;
     /// - `Memory` where memory runs out.
     pub fn exited(&mut self, alloc: Global, caller: u32, inc: u64) -> Result<Reply, NoStep>
+        ensures { Steps self.old self.new caller (Event.Exited inc) result }
+    {
+        self.step(alloc, caller, EventRef::Ask(Request::Exited, inc))
+    }
+
+    /// Makes the step of an exit, where there is room.
+    fn exit_at(&mut self, alloc: Global, caller: u32, inc: u64) -> Result<Reply, NoStep>
+        requires room { RealmHasRoom self.old 1 }
         ensures step { IfOk result (λ reply.
             AddsEntry self.old self.new caller (Event.Exited inc) reply) }
-        ensures room { OnOk result (RealmHasRoom self.old 1) }
-        ensures full { LacksRoom self.old 1 → result ≡ Err NoStep.HistoryFull }
         ensures refused { let waits = WaitsToExit (world_of self.old) inc in
             IfErr result (RefusesStep self.old 1 waits) }
         ensures err { OnErr result (self.new ≡ self.old) }
     {
-        if !self.has_room(1) {
-            return Err(NoStep::HistoryFull);
-        }
         let answer = exit_answer(alloc, &self.table, inc)?;
         self.exit_by(caller, inc, answer)
     }

@@ -1,16 +1,18 @@
 //! The step that creates a child in a collection: `CreateChild` of `fuchsia.component.Realm`
 //! (fuchsia.dev).
 
-ghost use Rattle.std.specs.Prelude.{◌≡◌, Err, IfOk, IfErr, OnOk, OnErr};
+ghost use Rattle.std.specs.Prelude.{◌≡◌, IfOk, IfErr, OnOk, OnErr};
 ghost use Rattle.cm_world.specs.Create.{IsCreateReply};
 ghost use Rattle.cm_dynamic.specs.Laws.{CanTakeChild};
 ghost use Rattle.cm_laws.specs.Story.{world_of, AddsEntry};
-ghost use Rattle.cm_steps.specs.Steps.{RealmHasRoom, LacksRoom, RefusesQuiet};
+ghost use Rattle.cm_steps.specs.Requests.{Steps};
+ghost use Rattle.cm_steps.specs.Steps.{RealmHasRoom, RefusesQuiet};
 ghost use Rattle.cm_steps.specs.Answers.{CreatesBy};
 
 use super::Realm;
 use crate::nostep::NoStep;
 use crate::replies::creating::{CreateAnswer, create_answer};
+use crate::request::{EventRef, Request};
 use crate::rooms::add_row;
 use cm_decl::Give;
 use cm_laws::trees_stay_sound;
@@ -43,16 +45,28 @@ impl Realm {
         url: Text,
         gives: List<Give>,
     ) -> Result<Reply, NoStep>
+        ensures { Steps self.old self.new caller (Event.Create parent coll name url gives) result }
+    {
+        let request = Request::Create(&coll, &name, &url, &gives);
+        self.step(alloc, caller, EventRef::Ask(request, parent))
+    }
+
+    /// Makes the step of a create, where there is room.
+    pub(super) fn create_at(
+        &mut self,
+        alloc: Global,
+        caller: u32,
+        parent: u64,
+        coll: Name,
+        name: Name,
+        url: Text,
+        gives: List<Give>,
+    ) -> Result<Reply, NoStep>
         ensures step { IfOk result (λ reply.
             AddsEntry self.old self.new caller (Event.Create parent coll name url gives) reply) }
-        ensures room { OnOk result (RealmHasRoom self.old 1) }
-        ensures full { LacksRoom self.old 1 → result ≡ Err NoStep.HistoryFull }
         ensures refused { IfErr result (RefusesQuiet self.old) }
         ensures err { OnErr result (self.new ≡ self.old) }
     {
-        if !self.has_room(1) {
-            return Err(NoStep::HistoryFull);
-        }
         trees_stay_sound();
         let offered = gives.as_slice();
         let answer = create_answer(alloc, &self.table, parent, &coll, &name, offered)?;

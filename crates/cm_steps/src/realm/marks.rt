@@ -4,7 +4,7 @@
 //! the child is marked, it is shut down with all below it, and it is removed. That an instance is
 //! shut down before it is destroyed is the rule of Fuchsia's component lifecycle documentation.
 
-ghost use Rattle.std.specs.Prelude.{◌≡◌, Err, IsTrue, IfOk, IfErr, OnOk, OnErr, map, if◌then◌else◌};
+ghost use Rattle.std.specs.Prelude.{◌≡◌, IsTrue, IfOk, IfErr, OnOk, OnErr, map, if◌then◌else◌};
 ghost use Rattle.cm_world.specs.Rows.{is_live, subtree};
 ghost use Rattle.cm_world.specs.End.{set_closing, set_doomed};
 ghost use Rattle.cm_world.specs.Expiring.{runs_once as once};
@@ -12,7 +12,8 @@ ghost use Rattle.cm_world.specs.Marks.{lost_of, mark_reply};
 ghost use Rattle.cm_world.specs.Step.{may_purge};
 ghost use Rattle.cm_table.specs.Change.{with_changed};
 ghost use Rattle.cm_laws.specs.Story.{world_of, AddsEntry};
-ghost use Rattle.cm_steps.specs.Steps.{RealmHasRoom, LacksRoom, RefusesQuiet};
+ghost use Rattle.cm_steps.specs.Requests.{Steps};
+ghost use Rattle.cm_steps.specs.Steps.{RealmHasRoom, RefusesQuiet};
 ghost use Rattle.cm_steps.specs.Answers.{AnswersMark, AnswersPurge};
 
 use super::Realm;
@@ -20,7 +21,7 @@ use crate::expiring;
 use crate::nostep::NoStep;
 use crate::replies::marking::{MarkAnswer, mark_answer};
 use crate::replies::purging::{PurgeAnswer, purge_answer};
-use crate::replies::reaping::reap_reply;
+use crate::request::{EventRef, Request};
 use crate::rooms::copy_in_room;
 use cm_laws::trees_stay_sound;
 use cm_names::List;
@@ -42,16 +43,19 @@ impl Realm {
     /// - `HistoryFull` where one entry more doesn't fit, which is tried first;
     /// - `Memory` where memory runs out.
     pub fn mark(&mut self, caller: u32, doom: bool, inc: u64) -> Result<Reply, NoStep>
+        ensures { Steps self.old self.new caller (Event.Mark doom inc) result }
+    {
+        let alloc = *self.acts.allocator();
+        self.step(alloc, caller, EventRef::Ask(Request::Mark(doom), inc))
+    }
+
+    /// Makes the step of a mark, where there is room.
+    pub(super) fn mark_at(&mut self, caller: u32, doom: bool, inc: u64) -> Result<Reply, NoStep>
         ensures step { IfOk result (λ reply.
             AddsEntry self.old self.new caller (Event.Mark doom inc) reply) }
-        ensures room { OnOk result (RealmHasRoom self.old 1) }
-        ensures full { LacksRoom self.old 1 → result ≡ Err NoStep.HistoryFull }
         ensures refused { IfErr result (RefusesQuiet self.old) }
         ensures err { OnErr result (self.new ≡ self.old) }
     {
-        if !self.has_room(1) {
-            return Err(NoStep::HistoryFull);
-        }
         let answer = mark_answer(&self.table, doom, inc);
         self.mark_by(caller, doom, inc, answer)
     }
@@ -100,18 +104,9 @@ impl Realm {
     /// - `HistoryFull` where one entry more doesn't fit, which is tried first;
     /// - `Memory` where memory runs out.
     pub fn reap(&mut self, alloc: Global, caller: u32, inc: u64) -> Result<Reply, NoStep>
-        ensures step { IfOk result (λ reply.
-            AddsEntry self.old self.new caller (Event.Reap inc) reply) }
-        ensures room { OnOk result (RealmHasRoom self.old 1) }
-        ensures full { LacksRoom self.old 1 → result ≡ Err NoStep.HistoryFull }
-        ensures refused { IfErr result (RefusesQuiet self.old) }
-        ensures err { OnErr result (self.new ≡ self.old) }
+        ensures { Steps self.old self.new caller (Event.Reap inc) result }
     {
-        if !self.has_room(1) {
-            return Err(NoStep::HistoryFull);
-        }
-        let reply = reap_reply(alloc, &self.table, inc)?;
-        self.tell(caller, Event::Reap(inc), reply)
+        self.step(alloc, caller, EventRef::Reap(inc))
     }
 
     /// Whether an instance lives in a collection that runs each child once (`durability`:
@@ -132,16 +127,19 @@ impl Realm {
     /// - `Memory` where memory runs out.
     pub fn purge(&mut self, alloc: Global, caller: u32, inc: u64) -> Result<Reply, NoStep>
         requires purgeable { IsTrue (may_purge (world_of self.old).rows inc) }
+        ensures { Steps self.old self.new caller (Event.Purge inc) result }
+    {
+        self.step(alloc, caller, EventRef::Purge(inc))
+    }
+
+    /// Makes the step of a purge, where there is room.
+    pub(super) fn purge_at(&mut self, alloc: Global, caller: u32, inc: u64) -> Result<Reply, NoStep>
+        requires purgeable { IsTrue (may_purge (world_of self.old).rows inc) }
         ensures step { IfOk result (λ reply.
             AddsEntry self.old self.new caller (Event.Purge inc) reply) }
-        ensures room { OnOk result (RealmHasRoom self.old 1) }
-        ensures full { LacksRoom self.old 1 → result ≡ Err NoStep.HistoryFull }
         ensures refused { IfErr result (RefusesQuiet self.old) }
         ensures err { OnErr result (self.new ≡ self.old) }
     {
-        if !self.has_room(1) {
-            return Err(NoStep::HistoryFull);
-        }
         let answer = purge_answer(alloc, &self.table, inc)?;
         self.purge_by(caller, inc, answer)
     }

@@ -9,6 +9,7 @@ ghost use Rattle.cm_world.specs.Step.{PicksOff, may_close};
 ghost use Rattle.cm_order.specs.Picking.{MayBePicked};
 ghost use Rattle.cm_laws.specs.Story.{world_of, AddsEntry};
 ghost use Rattle.cm_laws.specs.Clients.{picked_by};
+ghost use Rattle.cm_steps.specs.Requests.{Steps};
 ghost use Rattle.cm_steps.specs.Steps.{RealmHasRoom, LacksRoom, RefusesStep, RefusesQuiet, WaitsToPick};
 ghost use Rattle.cm_steps.specs.Answers.{PicksOrWaits};
 ghost use Rattle.cm_steps.specs.Chosen.{Chooses, PicksThis};
@@ -16,6 +17,7 @@ ghost use Rattle.cm_steps.specs.Chosen.{Chooses, PicksThis};
 use super::Realm;
 use crate::nostep::NoStep;
 use crate::replies::picking::{PickAnswer, pick_answer, this_answer};
+use crate::request::EventRef;
 use crate::rooms::next_action;
 use cm_laws::trees_stay_sound;
 use cm_world::{ActKind, Event, Reply};
@@ -37,17 +39,21 @@ impl Realm {
     /// - `Memory` where memory runs out.
     pub fn pick(&mut self, alloc: Global, caller: u32, target: u64) -> Result<Reply, NoStep>
         requires closing { IsTrue (may_close (world_of self.old).rows target) }
+        ensures { Steps self.old self.new caller (Event.Pick target) result }
+    {
+        self.step(alloc, caller, EventRef::Pick(target))
+    }
+
+    /// Makes the step of a pick, where there is room.
+    pub(super) fn pick_at(&mut self, alloc: Global, caller: u32, target: u64) -> Result<Reply, NoStep>
+        requires closing { IsTrue (may_close (world_of self.old).rows target) }
+        requires room { RealmHasRoom self.old 2 }
         ensures step { IfOk result (λ reply.
             AddsEntry self.old self.new caller (Event.Pick target) reply) }
-        ensures room { OnOk result (RealmHasRoom self.old 2) }
-        ensures full { LacksRoom self.old 2 → result ≡ Err NoStep.HistoryFull }
         ensures refused { let waits = WaitsToPick (world_of self.old) target in
             IfErr result (RefusesStep self.old 2 waits) }
         ensures err { OnErr result (self.new ≡ self.old) }
     {
-        if !self.has_room(2) {
-            return Err(NoStep::HistoryFull);
-        }
         trees_stay_sound();
         let next = next_action(self.acts.as_slice());
         let answer = pick_answer(alloc, &self.table, &mut self.records.plan, next, target)?;

@@ -4,7 +4,7 @@ use Rattle.cm_laws.specs.Story.{world_of}
 use Rattle.cm_steps.specs.Inside.{world_in}
 use Rattle.cm_steps.specs.Answers.{CreatesBy}
 use Rattle.cm_steps.proofs.steps.Stepping.{sound_in}
-use Rattle.cm_steps.proofs.realm.Realm.create.Goals as goal
+use Rattle.cm_steps.proofs.realm.Realm.create_at.Goals as goal
 
 pub create_answer-requires : goal.create_answer-requires
 create_answer-requires c = sound_in c.trees_stay_sound.ensures.sound c.self.inside c.self.invariant

@@ -4,7 +4,7 @@ use Rattle.cm_world.specs.Legal.{IsStep}
 use Rattle.cm_laws.specs.Story.{world_of, entry_of}
 use Rattle.cm_steps.proofs.steps.Stepping.{sound_in}
 use Rattle.cm_steps.proofs.steps.Rooted.{root_in}
-use Rattle.cm_steps.proofs.realm.Realm.find.Goals as goal
+use Rattle.cm_steps.proofs.realm.Realm.find_at.Goals as goal
 
 pub found-requires-clause-orderly : goal.found-requires-clause-orderly
 found-requires-clause-orderly c = (sound_in c.trees_stay_sound.ensures.sound c.self.inside c.self.invariant).orderly

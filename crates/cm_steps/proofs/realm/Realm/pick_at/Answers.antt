@@ -6,7 +6,7 @@ use Rattle.cm_steps.specs.Inside.{world_in}
 use Rattle.cm_steps.specs.Answers.{AnswersPick, PicksOrWaits}
 use Rattle.cm_steps.proofs.steps.Stepping.{sound_in}
 use Rattle.cm_steps.proofs.actions.Waits.{picks_by}
-use Rattle.cm_steps.proofs.realm.Realm.pick.Goals as goal
+use Rattle.cm_steps.proofs.realm.Realm.pick_at.Goals as goal
 
 pub pick_answer-requires : goal.pick_answer-requires
 pick_answer-requires c = record {
