@@ -7,7 +7,7 @@
 //! |---|---|
 //! | `Answers` | which refusal or answer a reply, or the end of an action, comes to |
 //! | `Lines` | the lines of a check of all routes |
-//! | `Questions` | what a call asks of an instance, and by which event |
+//! | `Questions` | the command that makes a request, and what follows its reply |
 #![tactic(auto)]
 
 mod acted;
@@ -20,4 +20,4 @@ pub use acted::ActionResult;
 pub use answers::{behind, decided, ending, found, refusing, unless_ended, unmarked};
 pub use ended::{ending_of_eager, if_failed};
 pub use lines::{doctored, found_at, or_memory, route_in, rows_in, with_unresolved};
-pub use question::{EventRef, Follow, Question, Request, following, question_of};
+pub use question::{Follow, following, request_of};

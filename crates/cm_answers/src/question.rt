@@ -1,70 +1,13 @@
-//! What a call asks of the instance that its target names.
+//! What a command asks of the instance that its target names.
 
-ghost use Rattle.std.specs.Prelude.{◌≡◌};
+ghost use Rattle.std.specs.Prelude.{◌≡◌, IfOk, IfErr};
+ghost use Rattle.cm_command.specs.declared.command.Command.TheVariants.{Doctor};
 ghost use Rattle.cm_answers.specs.Questions.{asked_by, follow_of};
 
 use crate::answers::{created_in, has_left};
 use cm_command::Command;
-use cm_decl::Give;
-use cm_names::{CapPath, List, Moniker, Name, Text};
+use cm_steps::Request;
 use cm_world::{ActKind, Refusal, Reply, Target};
-
-/// What a call asks of an instance.
-#[derive(Clone, Copy)]
-pub enum Question<'a> {
-    /// An action of this kind, with what follows it.
-    Act(ActKind),
-    /// To shut it down with all below it.
-    Shutdown,
-    /// To shut it down likewise, and to remove it.
-    Destroy,
-    /// Where all that it and those below it use comes from.
-    Doctor,
-    /// What happened at and below it after so many entries.
-    Events(u64),
-    /// What one event asks, with what follows it.
-    Event(Request<'a>),
-}
-
-/// What one event asks of an instance.
-#[derive(Clone, Copy)]
-pub enum Request<'a> {
-    /// To create a child in this collection, of this name and URL, that is offered this alone.
-    Create(&'a Name, &'a Name, &'a Text, &'a List<Give>),
-    /// Which children it has in this collection.
-    List(&'a Name),
-    /// To open what it uses at this path.
-    OpenUse(&'a CapPath),
-    /// To open what it exposes by this name.
-    OpenExposed(&'a Name),
-    /// Where what it uses at this path comes from.
-    Route(&'a CapPath),
-    /// How it is.
-    Show,
-    /// How it and all below it are.
-    Survey,
-    /// That its program has ended by itself.
-    Exited,
-}
-
-/// An event that one turn makes. What it names is lent, and copied for its entry alone.
-#[derive(Clone, Copy)]
-pub enum EventRef<'a> {
-    /// To find the instance at this moniker.
-    Find(&'a Moniker),
-    /// This, of the instance of this incarnation.
-    Ask(Request<'a>, u64),
-    /// To begin an action of this kind at this instance.
-    Begin(ActKind, u64),
-    /// To mark this instance with all below it: to be destroyed (`true`), or to be shut down.
-    Mark(bool, u64),
-    /// To go on with the shutdown of this instance.
-    Pick(u64),
-    /// To remove this instance, which is shut with all below it.
-    Purge(u64),
-    /// To mark what went with this instance.
-    Reap(u64),
-}
 
 /// What follows a reply.
 #[derive(Clone, Copy)]
@@ -77,37 +20,34 @@ pub enum Follow {
     Sweep(u64),
 }
 
-/// The target of a command, and what the command asks of it.
-pub fn question_of(command: &Command) -> (&Target, Question<'_>)
-    ensures { asked_by result.0.now result.1 ≡ command.now }
+/// The target of a command, and the request that it makes of it. `Err` with the target of a check of all
+/// routes, which is no request of one instance.
+pub fn request_of(command: &Command) -> Result<(&Target, Request<'_>), &Target>
+    ensures asks { IfOk result (λ asked. asked_by asked.0.now asked.1 ≡ command.now) }
+    ensures checks { IfErr result (λ target. Doctor target.now ≡ command.now) }
 {
     match command {
-        Command::Resolve(target) => (target, Question::Act(ActKind::Resolve)),
-        Command::Start(target) => (target, Question::Act(ActKind::Start)),
-        Command::Stop(target) => (target, Question::Act(ActKind::Stop)),
-        Command::Shutdown(target) => (target, Question::Shutdown),
+        Command::Resolve(target) => Ok((target, Request::Begin(ActKind::Resolve))),
+        Command::Start(target) => Ok((target, Request::Begin(ActKind::Start))),
+        Command::Stop(target) => Ok((target, Request::Begin(ActKind::Stop))),
+        Command::Shutdown(target) => Ok((target, Request::Mark(false))),
         Command::Create {
             parent,
             coll,
             name,
             url,
             gives,
-        } => (
-            parent,
-            Question::Event(Request::Create(coll, name, url, gives)),
-        ),
-        Command::Destroy(target) => (target, Question::Destroy),
-        Command::ListChildren { target, coll } => (target, Question::Event(Request::List(coll))),
-        Command::OpenUse { target, path } => (target, Question::Event(Request::OpenUse(path))),
-        Command::OpenExposed { target, name } => {
-            (target, Question::Event(Request::OpenExposed(name)))
-        }
-        Command::RouteOf { target, path } => (target, Question::Event(Request::Route(path))),
-        Command::Doctor(target) => (target, Question::Doctor),
-        Command::Show(target) => (target, Question::Event(Request::Show)),
-        Command::Survey(target) => (target, Question::Event(Request::Survey)),
-        Command::Exited(target) => (target, Question::Event(Request::Exited)),
-        Command::Events { target, from } => (target, Question::Events(*from)),
+        } => Ok((parent, Request::Create(coll, name, url, gives))),
+        Command::Destroy(target) => Ok((target, Request::Mark(true))),
+        Command::ListChildren { target, coll } => Ok((target, Request::List(coll))),
+        Command::OpenUse { target, path } => Ok((target, Request::OpenUse(path))),
+        Command::OpenExposed { target, name } => Ok((target, Request::OpenExposed(name))),
+        Command::RouteOf { target, path } => Ok((target, Request::Route(path))),
+        Command::Doctor(target) => Err(target),
+        Command::Show(target) => Ok((target, Request::Show)),
+        Command::Survey(target) => Ok((target, Request::Survey)),
+        Command::Exited(target) => Ok((target, Request::Exited)),
+        Command::Events { target, from } => Ok((target, Request::Tail(*from))),
     }
 }
 
