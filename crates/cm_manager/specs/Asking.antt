@@ -13,16 +13,15 @@ use Rattle.cm_world.specs.declared.reply.Reply.TheVariants as reply
 use Rattle.cm_world.specs.declared.answer.Refusal.{Refusal}
 use Rattle.cm_world.specs.declared.answer.Refusal.TheVariants as refusal
 use Rattle.cm_world.specs.World.{World, start}
-use Rattle.cm_world.specs.Step.{may_close, may_purge}
 use Rattle.cm_world.specs.Legal.{Legal}
 use Rattle.cm_laws.specs.Story.{Story, AddsEntry, entry_of}
 use Rattle.cm_laws.specs.Shutdowns.{IsLeaving, IsMarked}
 use Rattle.cm_laws.specs.ShutdownsInside.{IsShutBelow}
-use Rattle.cm_steps.specs.Steps.{RealmHasRoom, LacksRoom, WaitsToBegin, WaitsToExit, WaitsToPick}
+use Rattle.cm_steps.specs.Requests.{TreeAllows}
 use Rattle.cm_steps.specs.declared.nostep.NoStep.{NoStep}
 use Rattle.cm_steps.specs.declared.nostep.NoStep.TheVariants as nostep
 use Rattle.cm_manager.specs.Turns.{IsLaterHistory, AddsOneEntry, AddsWithinRoom, EndsWithoutEntry}
-use Rattle.cm_manager.specs.Turns.{need, world_after}
+use Rattle.cm_manager.specs.Turns.{world_after}
 use Rattle.cm_manager.specs.Contract.{RealmPass}
 
 -- ---- passes
@@ -75,12 +74,6 @@ IsDue w (event.Pick t) = IsLeaving w t
 IsDue w (event.Purge i) = IsMarked true w i × IsShutBelow w i
 IsDue w _ = Unit {0}
 
--- what the tree has to allow before such an event may be made
-abbrev pub TreeAllows : World → Event → Type 0
-TreeAllows w (event.Pick t) = IsTrue (may_close w.rows t)
-TreeAllows w (event.Purge i) = IsTrue (may_purge w.rows i)
-TreeAllows w _ = Unit {0}
-
 -- what a caller has seen of it stays true, whatever other callers do
 abbrev pub DueStays : Type 0
 DueStays =
@@ -90,30 +83,6 @@ DueStays =
 -- where a caller has seen it, the tree allows the event
 abbrev pub DueIsOpen : Type 0
 DueIsOpen = (w : World) (e : Event) → IsDue w e → TreeAllows w e
-
--- a step that is told as lacking room really lacks it
-abbrev pub RefusesRoom : Story → ℕ → NoStep → Type 0
-RefusesRoom s more nostep.HistoryFull = LacksRoom s more
-RefusesRoom s more _ = Unit {0}
-
--- an event has to wait for this action, which is pending in its way; only begins, picks and exits ever
--- wait
-abbrev pub EventWaitsFor : World → Event → ℕ → Type 0
-EventWaitsFor w (event.Begin kind i) a = WaitsToBegin w kind i a
-EventWaitsFor w (event.Pick t) a = WaitsToPick w t a
-EventWaitsFor w (event.Exited i) a = WaitsToExit w i a
-EventWaitsFor w _ a = ⊥
-
--- a step that is told as busy has to wait for that action
-abbrev pub IsBusy : World → Event → NoStep → Type 0
-IsBusy w e (nostep.Busy a) = EventWaitsFor w e a
-IsBusy w e _ = Unit {0}
-
--- a step of the realm: the event has its entry, for which there was room; or the realm is as before,
--- and the refusal is true
-abbrev pub StepsBy : Story → Story → ℕ → Event → Result Reply NoStep → Type 0
-StepsBy old new c e (Ok r) = AddsEntry old new c e r × RealmHasRoom old (need e)
-StepsBy old new c e (Err x) = (new ≡ old) × RefusesRoom old (need e) x
 
 -- an await at the realm: a caller that joined the action has its outcome; or there is none yet, and
 -- the realm is as before

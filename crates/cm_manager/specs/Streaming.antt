@@ -7,12 +7,13 @@ use Rattle.cm_world.specs.declared.answer.Refusal.TheVariants as refusal
 use Rattle.cm_world.specs.declared.event.Event.TheVariants as event
 use Rattle.cm_world.specs.declared.reply.Reply.{Reply}
 use Rattle.cm_laws.specs.Story.{Story, AddsEntry, entry_of}
+use Rattle.cm_steps.specs.Needs.{need}
+use Rattle.cm_steps.specs.Requests.{RefusesEvent}
 use Rattle.cm_steps.specs.Steps.{RealmHasRoom}
 use Rattle.cm_steps.specs.declared.nostep.NoStep.{NoStep}
 use Rattle.cm_steps.specs.declared.nostep.NoStep.TheVariants as nostep
-use Rattle.cm_manager.specs.Turns.{need}
 use Rattle.cm_manager.specs.Contract.{RealmPass}
-use Rattle.cm_manager.specs.Asking.{frame_of, RefusesRoom}
+use Rattle.cm_manager.specs.Asking.{frame_of}
 use Rattle.cm_manager.specs.Streams.{Streams, streamed_by}
 
 -- the realm's step: the entry was made, for which there was room, and the answer is read of the
@@ -21,7 +22,7 @@ abbrev pub StreamsBy : Story → Story → ℕ → ℕ → ℕ → Result (Resul
 StreamsBy old new c i from (Ok a) =
     (r : Reply) × AddsEntry old new c (event.Tail i from) r × RealmHasRoom old (need (event.Tail i from))
     × (a ≡ streamed_by old.frame old.entries from i r)
-StreamsBy old new c i from (Err x) = (new ≡ old) × RefusesRoom old (need (event.Tail i from)) x
+StreamsBy old new c i from (Err x) = (new ≡ old) × RefusesEvent old (event.Tail i from) x
 
 -- the answer of the turn, or the refusal that it means
 abbrev pub answer_in : Result (Result Answer Refusal) NoStep → Result Answer Refusal

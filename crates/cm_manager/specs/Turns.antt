@@ -4,13 +4,13 @@ use Rattle.std.specs.Prelude.{◌≡◌, ℕ, ◌+◌, ◌<◌, ◌≤◌, List,
 use Rattle.cm_turn.specs.History.{StartsWith, entries_by}
 use Rattle.cm_world.specs.declared.frame.Frame.{Frame}
 use Rattle.cm_world.specs.declared.event.Event.{Event}
-use Rattle.cm_world.specs.declared.event.Event.TheVariants as event
 use Rattle.cm_world.specs.declared.reply.Entry.{Entry}
 use Rattle.cm_world.specs.declared.reply.Reply.{Reply}
 use Rattle.cm_world.specs.declared.answer.Refusal.{Refusal}
 use Rattle.cm_world.specs.declared.answer.Refusal.TheVariants as refusal
 use Rattle.cm_world.specs.World.{World, start}
 use Rattle.cm_world.specs.Legal.{replay, owed_by}
+use Rattle.cm_steps.specs.Needs.{need}
 
 -- the tree that a history leaves
 abbrev pub world_after : Frame → List Entry → World
@@ -31,13 +31,6 @@ pub record AddsOneEntry (c : ℕ) (old : List Entry) (event : Event) (reply : Re
   pub found : List Entry
   pub later : IsLaterHistory c old found
   pub entries : new ≡ found ++ record { caller = c; event = event; reply = reply } ∷ []
-
--- how many entries there must be room for before an event is made: two where it begins an action,
--- whose end comes later
-abbrev pub need : Event → ℕ
-need (event.Begin kind i) = 2
-need (event.Pick t) = 2
-need _ = 1
 
 -- the entries that there are, those that still have to come, and those that an event needs room for
 abbrev pub wanted : Frame → List Entry → Event → ℕ

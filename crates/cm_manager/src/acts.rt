@@ -6,8 +6,9 @@ ghost use Rattle.cm_manager.specs.Runs.{RunsAction};
 
 use crate::began::Began;
 use crate::caller::Caller;
-use cm_answers::{ActionResult, EventRef};
+use cm_answers::ActionResult;
 use cm_gate::Gates;
+use cm_steps::{EventRef, Request};
 use cm_world::{ActKind, Refusal, Reply};
 use std::sync::Wait;
 use std::thread::Threads;
@@ -17,7 +18,7 @@ impl<'a, R: Threads + Wait + Sync, G: Gates> Caller<'a, R, G> {
     pub(crate) fn begin(&mut self, kind: ActKind, inc: u64) -> Result<Began, Refusal>
         ensures { CallerRuns (λ f c a b. BeginRun f c kind inc result a b) self.old self.new }
     {
-        let reply = self.ask(EventRef::Begin(kind, inc))?;
+        let reply = self.ask(EventRef::Ask(Request::Begin(kind), inc))?;
         match reply {
             Reply::Begun(boxed) => {
                 let work = boxed.into_value();

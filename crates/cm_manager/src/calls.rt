@@ -27,18 +27,19 @@ ghost use Rattle.cm_manager.specs.Caller.{CallerPerforms, CallerRuns, TakesTurns
 ghost use Rattle.cm_manager.specs.Gated.{PerformsWith};
 ghost use Rattle.cm_manager.specs.Laws.{IsRemoved, LeavesRow};
 ghost use Rattle.cm_answers.specs.Questions.{asked_by};
-ghost use Rattle.cm_manager.specs.Questions.{AnswersTo};
+ghost use Rattle.cm_manager.specs.Questions.{AnswersTo, CallsMark};
 ghost use Rattle.cm_manager.specs.Streaming.{StreamedBy};
 
 use crate::Manager;
 use crate::caller::Caller;
 use crate::laws::answers_hold;
 use cm_answers::ended::acted;
-use cm_answers::{Question, Request, question_of, unless_ended};
+use cm_answers::{request_of, unless_ended};
 use cm_command::Command;
 use cm_decl::Give;
 use cm_gate::Gates;
 use cm_names::{CapPath, List, Name, Text};
+use cm_steps::Request;
 use cm_turn::Pass;
 use cm_world::{ActKind, Answer, Entry, Frame, Refusal, Target};
 use std::alloc::Global;
@@ -59,37 +60,43 @@ impl<'a, R: Threads + Wait + Sync, G: Gates> Caller<'a, R, G> {
         answer
     }
 
-    /// Answers a question of the instance of this incarnation.
-    fn answer(&mut self, inc: u64, question: Question<'_>) -> Result<Answer, Refusal>
-        ensures { CallerRuns (λ f c a b. AnswersTo f c question.entry inc a b result) self.old self.new }
+    /// Marks the instance of this incarnation, and shuts it down with all below it; where `doom` is true it
+    /// is removed then.
+    fn mark_row(&mut self, doom: bool, inc: u64) -> Result<Answer, Refusal>
+        ensures { CallerRuns (λ f c a b. CallsMark f c doom inc a b result) self.old self.new }
     {
-        match question {
-            Question::Act(kind) => acted(kind, self.act(kind, inc)),
-            Question::Shutdown => unless_ended(Answer::Shut, self.shut_row(false, inc)),
-            Question::Destroy => unless_ended(Answer::Destroyed, self.destroy_row(inc)),
-            Question::Doctor => self.doctor_at(inc),
-            Question::Events(from) => self.events_at(inc, from),
-            Question::Event(request) => self.request(inc, request),
+        if doom {
+            unless_ended(Answer::Destroyed, self.destroy_row(inc))
+        } else {
+            unless_ended(Answer::Shut, self.shut_row(false, inc))
         }
     }
 
-    /// Finds the instance that a target names, and answers a question of it.
-    fn find_and_answer(
-        &mut self,
-        target: &Target,
-        question: Question<'_>,
-    ) -> Result<Answer, Refusal>
-        ensures { CallerPerforms (asked_by target.now question.entry) self.old self.new result }
+    /// Answers a request of the instance of this incarnation.
+    fn answer(&mut self, inc: u64, request: Request<'_>) -> Result<Answer, Refusal>
+        ensures { CallerRuns (λ f c a b. AnswersTo f c request.entry inc a b result) self.old self.new }
+    {
+        match request {
+            Request::Begin(kind) => acted(kind, self.act(kind, inc)),
+            Request::Mark(doom) => self.mark_row(doom, inc),
+            Request::Tail(from) => self.events_at(inc, from),
+            single => self.request(inc, single),
+        }
+    }
+
+    /// Finds the instance that a target names, and answers a request of it.
+    fn find_and_answer(&mut self, target: &Target, request: Request<'_>) -> Result<Answer, Refusal>
+        ensures { CallerPerforms (asked_by target.now request.entry) self.old self.new result }
     {
         let inc = self.find_row(target)?;
-        self.answer(inc, question)
+        self.answer(inc, request)
     }
 
     /// Makes one call, and gives the permit back.
-    fn call(&mut self, target: &Target, question: Question<'_>) -> Result<Answer, Refusal>
-        ensures { CallerPerforms (asked_by target.now question.entry) self.old self.new result }
+    fn call(&mut self, target: &Target, request: Request<'_>) -> Result<Answer, Refusal>
+        ensures { CallerPerforms (asked_by target.now request.entry) self.old self.new result }
     {
-        let answer = self.find_and_answer(target, question);
+        let answer = self.find_and_answer(target, request);
         self.give_back();
         answer
     }
@@ -99,8 +106,10 @@ impl<'a, R: Threads + Wait + Sync, G: Gates> Caller<'a, R, G> {
     pub fn perform(&mut self, command: &Command) -> Result<Answer, Refusal>
         ensures performs { CallerPerforms command.now self.old self.new result }
     {
-        let (target, question) = question_of(command);
-        self.call(target, question)
+        match request_of(command) {
+            Ok((target, request)) => self.call(target, request),
+            Err(target) => self.doctor(target),
+        }
     }
 }
 
@@ -113,15 +122,15 @@ impl Manager {
         pass: Pass<Entry, Frame>,
         gates: &mut G,
         target: &Target,
-        question: Question<'_>,
+        request: Request<'_>,
     ) -> (Pass<Entry, Frame>, Result<Answer, Refusal>)
         requires lock { pass.lock ≡ self.now.turn.lock }
         ensures performs { PerformsWith G.log G.faults self.now.manifests
-            (asked_by target.now question.entry)
+            (asked_by target.now request.entry)
             pass result.0 gates.old gates.new result.1 }
     {
         let mut caller = Caller::new(rt, alloc, self, pass, gates);
-        let answer = caller.call(target, question);
+        let answer = caller.call(target, request);
         let (pass, _gates) = caller.into_parts();
         (pass, answer)
     }
@@ -140,8 +149,8 @@ impl Manager {
         ensures performs { PerformsWith G.log G.faults self.now.manifests (command.Resolve target.now)
             pass result.0 gates.old gates.new result.1 }
     {
-        let question = Question::Act(ActKind::Resolve);
-        self.call(rt, alloc, pass, gates, target, question)
+        let request = Request::Begin(ActKind::Resolve);
+        self.call(rt, alloc, pass, gates, target, request)
     }
 
     /// Starts an instance, as `StartInstance` of `fuchsia.sys2.LifecycleController` does, with its
@@ -160,8 +169,8 @@ impl Manager {
         ensures performs { PerformsWith G.log G.faults self.now.manifests (command.Start target.now)
             pass result.0 gates.old gates.new result.1 }
     {
-        let question = Question::Act(ActKind::Start);
-        self.call(rt, alloc, pass, gates, target, question)
+        let request = Request::Begin(ActKind::Start);
+        self.call(rt, alloc, pass, gates, target, request)
     }
 
     /// Stops an instance, as `StopInstance` of `fuchsia.sys2.LifecycleController` does: `Stopped`
@@ -180,7 +189,8 @@ impl Manager {
         ensures performs { PerformsWith G.log G.faults self.now.manifests (command.Stop target.now)
             pass result.0 gates.old gates.new result.1 }
     {
-        self.call(rt, alloc, pass, gates, target, Question::Act(ActKind::Stop))
+        let request = Request::Begin(ActKind::Stop);
+        self.call(rt, alloc, pass, gates, target, request)
     }
 
     /// Shuts an instance down, with all below it: they are stopped one by one, each before what it
@@ -206,7 +216,7 @@ impl Manager {
             IfOk result.1 (λ _. LeavesRow f pass.caller target.now IsShutBelow pass.seen result.0.seen) }
     {
         answers_hold();
-        self.call(rt, alloc, pass, gates, target, Question::Shutdown)
+        self.call(rt, alloc, pass, gates, target, Request::Mark(false))
     }
 
     /// Creates a child of an instance in one of its collections, as `CreateChild` of
@@ -238,8 +248,8 @@ impl Manager {
             (command.Create parent.now coll.now name.now url.now gives.now)
             pass result.0 gates.old gates.new result.1 }
     {
-        let question = Question::Event(Request::Create(coll, name, url, gives));
-        self.call(rt, alloc, pass, gates, parent, question)
+        let request = Request::Create(coll, name, url, gives);
+        self.call(rt, alloc, pass, gates, parent, request)
     }
 
     /// Destroys a child in a collection, as `DestroyChild` of `fuchsia.component.Realm` does: it
@@ -266,7 +276,7 @@ impl Manager {
             IfOk result.1 (λ _. LeavesRow f pass.caller target.now IsRemoved pass.seen result.0.seen) }
     {
         answers_hold();
-        self.call(rt, alloc, pass, gates, target, Question::Destroy)
+        self.call(rt, alloc, pass, gates, target, Request::Mark(true))
     }
 
     /// Lists the children that an instance has in a collection and that aren't being destroyed,
@@ -286,8 +296,7 @@ impl Manager {
         ensures performs { PerformsWith G.log G.faults self.now.manifests
             (command.ListChildren target.now coll.now) pass result.0 gates.old gates.new result.1 }
     {
-        let question = Question::Event(Request::List(coll));
-        self.call(rt, alloc, pass, gates, target, question)
+        self.call(rt, alloc, pass, gates, target, Request::List(coll))
     }
 
     /// Opens what an instance uses at a path, and starts the provider first where it is off:
@@ -310,8 +319,7 @@ impl Manager {
         ensures performs { PerformsWith G.log G.faults self.now.manifests
             (command.OpenUse target.now path.now) pass result.0 gates.old gates.new result.1 }
     {
-        let question = Question::Event(Request::OpenUse(path));
-        self.call(rt, alloc, pass, gates, target, question)
+        self.call(rt, alloc, pass, gates, target, Request::OpenUse(path))
     }
 
     /// Opens what an instance exposes by a name, as `OpenExposedDir` of `fuchsia.component.Realm`
@@ -333,8 +341,7 @@ impl Manager {
         ensures performs { PerformsWith G.log G.faults self.now.manifests
             (command.OpenExposed target.now name.now) pass result.0 gates.old gates.new result.1 }
     {
-        let question = Question::Event(Request::OpenExposed(name));
-        self.call(rt, alloc, pass, gates, target, question)
+        self.call(rt, alloc, pass, gates, target, Request::OpenExposed(name))
     }
 
     /// Tells where what an instance uses at a path comes from: `Routed` with the route.
@@ -355,8 +362,7 @@ impl Manager {
         ensures performs { PerformsWith G.log G.faults self.now.manifests
             (command.RouteOf target.now path.now) pass result.0 gates.old gates.new result.1 }
     {
-        let question = Question::Event(Request::Route(path));
-        self.call(rt, alloc, pass, gates, target, question)
+        self.call(rt, alloc, pass, gates, target, Request::Route(path))
     }
 
     /// Tells how an instance is: `Shown`.
@@ -372,8 +378,7 @@ impl Manager {
         ensures performs { PerformsWith G.log G.faults self.now.manifests (command.Show target.now)
             pass result.0 gates.old gates.new result.1 }
     {
-        let question = Question::Event(Request::Show);
-        self.call(rt, alloc, pass, gates, target, question)
+        self.call(rt, alloc, pass, gates, target, Request::Show)
     }
 
     /// Tells how an instance and all below it are: `Surveyed` with those that aren't being
@@ -390,8 +395,7 @@ impl Manager {
         ensures performs { PerformsWith G.log G.faults self.now.manifests (command.Survey target.now)
             pass result.0 gates.old gates.new result.1 }
     {
-        let question = Question::Event(Request::Survey);
-        self.call(rt, alloc, pass, gates, target, question)
+        self.call(rt, alloc, pass, gates, target, Request::Survey)
     }
 
     /// Tells that the program of an instance has ended by itself: `Left`, and whether it was on.
@@ -409,8 +413,7 @@ impl Manager {
         ensures performs { PerformsWith G.log G.faults self.now.manifests (command.Exited target.now)
             pass result.0 gates.old gates.new result.1 }
     {
-        let question = Question::Event(Request::Exited);
-        self.call(rt, alloc, pass, gates, target, question)
+        self.call(rt, alloc, pass, gates, target, Request::Exited)
     }
 
     /// Tells what happened at and below an instance, as the entries behind the first `from` tell it:
@@ -429,7 +432,7 @@ impl Manager {
         ensures performs { PerformsWith G.log G.faults self.now.manifests (command.Events target.now from)
             pass result.0 gates.old gates.new result.1 }
     {
-        self.call(rt, alloc, pass, gates, target, Question::Events(from))
+        self.call(rt, alloc, pass, gates, target, Request::Tail(from))
     }
 
     /// Makes the call that a command names, and answers so.

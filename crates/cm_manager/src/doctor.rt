@@ -3,7 +3,7 @@
 ghost use Rattle.std.specs.Prelude.{◌≡◌, []};
 ghost use Rattle.cm_command.specs.declared.command.Command.TheVariants as command;
 ghost use Rattle.cm_manager.specs.Asking.{frame_of};
-ghost use Rattle.cm_manager.specs.Caller.{CallerRuns};
+ghost use Rattle.cm_manager.specs.Caller.{CallerPerforms, CallerRuns};
 ghost use Rattle.cm_manager.specs.Contract.{IsSamePass};
 ghost use Rattle.cm_manager.specs.Doctor.{GathersEach, OfPath, OfRow, Doctors};
 ghost use Rattle.cm_manager.specs.DoctorInside.{Adding, Gathering, Surveying};
@@ -11,11 +11,10 @@ ghost use Rattle.cm_manager.specs.Gated.{PerformsWith};
 
 use crate::Manager;
 use crate::caller::Caller;
-use cm_answers::{
-    Question, Request, doctored, found_at, or_memory, route_in, rows_in, with_unresolved,
-};
+use cm_answers::{doctored, found_at, or_memory, route_in, rows_in, with_unresolved};
 use cm_gate::Gates;
 use cm_names::{CapPath, List, Shared};
+use cm_steps::Request;
 use cm_turn::Pass;
 use cm_world::{Answer, Checked, Entry, Frame, Refusal, SurveyRow, Target};
 use std::alloc::Global;
@@ -89,11 +88,29 @@ impl<'a, R: Threads + Wait + Sync, G: Gates> Caller<'a, R, G> {
     }
 
     /// Checks the routes of the instance of this incarnation, and of all below it.
-    pub(crate) fn doctor_at(&mut self, inc: u64) -> Result<Answer, Refusal>
+    fn doctor_at(&mut self, inc: u64) -> Result<Answer, Refusal>
         ensures { CallerRuns (λ f c a b. Doctors f c inc a b result) self.old self.new }
     {
         let rows = self.try_survey(inc)?;
         doctored(self.check_rows(rows))
+    }
+
+    /// Finds the instance that a target names, and checks the routes of it and of all below it.
+    fn find_and_doctor(&mut self, target: &Target) -> Result<Answer, Refusal>
+        ensures { CallerPerforms (command.Doctor target.now) self.old self.new result }
+    {
+        let inc = self.find_row(target)?;
+        self.doctor_at(inc)
+    }
+
+    /// Makes the check of the routes at and below the instance that a target names, and gives the permit
+    /// back.
+    pub(crate) fn doctor(&mut self, target: &Target) -> Result<Answer, Refusal>
+        ensures { CallerPerforms (command.Doctor target.now) self.old self.new result }
+    {
+        let answer = self.find_and_doctor(target);
+        self.give_back();
+        answer
     }
 }
 
@@ -124,6 +141,9 @@ impl Manager {
         ensures performs { PerformsWith G.log G.faults self.now.manifests (command.Doctor target.now)
             pass result.0 gates.old gates.new result.1 }
     {
-        self.call(rt, alloc, pass, gates, target, Question::Doctor)
+        let mut caller = Caller::new(rt, alloc, self, pass, gates);
+        let answer = caller.doctor(target);
+        let (pass, _gates) = caller.into_parts();
+        (pass, answer)
     }
 }

@@ -1,16 +1,18 @@
 //! The parts of a call: the search for the row of its target, and its one event.
 
+ghost use Rattle.std.specs.Prelude.{IsTrue};
 ghost use Rattle.cm_world.specs.declared.event.Target.TheVariants as target;
 ghost use Rattle.cm_manager.specs.Calls.{Finding};
-ghost use Rattle.cm_answers.specs.Questions.{event_for};
-ghost use Rattle.cm_manager.specs.Questions.{Requested};
+ghost use Rattle.cm_steps.specs.Requests.{event_for};
+ghost use Rattle.cm_manager.specs.Questions.{Requested, is_single};
 ghost use Rattle.cm_manager.specs.Runs.{RetriesEvent};
 ghost use Rattle.cm_manager.specs.Caller.{CallerFinds, CallerRuns};
 
 use crate::caller::Caller;
-use cm_answers::{EventRef, Follow, Request, behind, decided, following, found};
+use cm_answers::{Follow, behind, decided, following, found};
 use cm_gate::Gates;
 use cm_names::Moniker;
+use cm_steps::{EventRef, Request};
 use cm_world::{Answer, Refusal, Reply, Target};
 use std::sync::Wait;
 use std::thread::Threads;
@@ -36,16 +38,18 @@ impl<'a, R: Threads + Wait + Sync, G: Gates> Caller<'a, R, G> {
 
     /// Makes the event of a request until a reply decides it.
     pub(crate) fn try_request(&mut self, inc: u64, request: Request<'_>) -> Result<Reply, Refusal>
+        requires { IsTrue (is_single request) }
         ensures { let e = event_for request.entry inc in
             CallerRuns (λ f c a b. RetriesEvent f c e a b result) self.old self.new }
     {
         self.try_event(EventRef::Ask(request, inc))
     }
 
-    /// Makes a request of the instance of this incarnation, and does what follows its reply: a
+    /// Makes a request of one event of the instance of this incarnation, and does what follows its reply: a
     /// child that was created is started where it runs once, and what went with an instance that
     /// has ended by itself is removed.
     pub(crate) fn request(&mut self, inc: u64, request: Request<'_>) -> Result<Answer, Refusal>
+        requires { IsTrue (is_single request) }
         ensures { CallerRuns (λ f c a b. Requested f c request.entry inc a b result) self.old self.new }
     {
         let went = self.try_request(inc, request);

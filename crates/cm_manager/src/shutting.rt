@@ -17,9 +17,10 @@ ghost use Rattle.cm_manager.specs.Sweeps.{Stops};
 
 use crate::began::PickTurn;
 use crate::caller::Caller;
-use cm_answers::{EventRef, unmarked};
+use cm_answers::unmarked;
 use cm_gate::Gates;
 use cm_laws::{marks_stay, pickers_end, shutdowns_last};
+use cm_steps::{EventRef, Request};
 use cm_world::{ActKind, Refusal, Reply};
 use std::sync::Wait;
 use std::thread::Threads;
@@ -80,7 +81,7 @@ impl<'a, R: Threads + Wait + Sync, G: Gates> Caller<'a, R, G> {
             IfNone result (IsShutBelow (world_after (frame_of p) p.seen) inc) }
     {
         marks_stay();
-        match unmarked(self.ask(EventRef::Mark(doom, inc))) {
+        match unmarked(self.ask(EventRef::Ask(Request::Mark(doom), inc))) {
             None => self.stop_all(inc),
             Some(refusal) => Some(refusal),
         }

@@ -4,13 +4,14 @@ ghost use Rattle.std.specs.Prelude.{IsTrue};
 ghost use Rattle.cm_manager.specs.Asking.{is_asked, is_plain};
 ghost use Rattle.cm_manager.specs.Acting.{ReadsBy};
 ghost use Rattle.cm_manager.specs.Caller.{CallerRuns};
-ghost use Rattle.cm_answers.specs.Questions.{event_of};
+ghost use Rattle.cm_steps.specs.Requests.{event_of};
 ghost use Rattle.cm_manager.specs.Runs.{RetriesEvent};
 
 use crate::began::Demand;
 use crate::caller::Caller;
-use cm_answers::{EventRef, ending};
+use cm_answers::ending;
 use cm_gate::Gates;
+use cm_steps::EventRef;
 use cm_world::{ActKind, Refusal, Reply};
 use std::sync::Wait;
 use std::thread::Threads;

@@ -1,6 +1,6 @@
 //! Turns at the realm: one event each.
 
-ghost use Rattle.std.specs.Prelude.{◌≡◌, None, IfNone, IfErr};
+ghost use Rattle.std.specs.Prelude.{◌≡◌, ℕ, None, Err, IfNone};
 ghost use Rattle.cm_world.specs.declared.event.Event.TheVariants as event;
 ghost use Rattle.cm_world.specs.declared.reply.Reply.TheVariants as reply;
 ghost use Rattle.cm_world.specs.World.{outcome_of};
@@ -8,22 +8,17 @@ ghost use Rattle.cm_world.specs.Step.{MayEnd};
 ghost use Rattle.cm_laws.specs.Story.{IsLegal, world_of, AddsEntry};
 ghost use Rattle.cm_laws.specs.Laws.{IsJoined};
 ghost use Rattle.cm_steps.specs.Ends.{finish_of};
-ghost use Rattle.cm_steps.specs.Steps.{RefusesQuiet};
+ghost use Rattle.cm_steps.specs.Requests.{EventWaitsFor, event_of};
 ghost use Rattle.cm_manager.specs.Turns.{world_after};
 ghost use Rattle.cm_manager.specs.Contract.{IsSamePass};
 ghost use Rattle.cm_manager.specs.Asking as asking;
-ghost use Rattle.cm_manager.specs.Asking.{StepsBy, AwaitsBy, Turned, Awaited, RecordsOutcome, frame_of};
-ghost use Rattle.cm_manager.specs.Asking.{DueStays, DueIsOpen, IsDue, TreeAllows, IsBusy};
-ghost use Rattle.cm_answers.specs.Questions.{event_for, event_of};
+ghost use Rattle.cm_manager.specs.Asking.{AwaitsBy, Turned, Awaited, RecordsOutcome, frame_of};
+ghost use Rattle.cm_manager.specs.Asking.{DueStays, DueIsOpen, IsDue};
 
 use crate::Manager;
 use crate::manager::check_history;
-use cm_answers::{EventRef, Request};
-use cm_decl::Give;
-use cm_decl::copies::four;
 use cm_laws::{marks_stay, shutdowns_last};
-use cm_names::{List, Name, Text};
-use cm_steps::{Ending, NoStep, Realm};
+use cm_steps::{Ending, EventRef, NoStep, Realm};
 use cm_turn::Pass;
 use cm_world::{Entry, Frame, Outcome, Refusal, Reply};
 use std::alloc::Global;
@@ -37,84 +32,6 @@ fn due_events_stay()
 {
     marks_stay();
     shutdowns_last();
-}
-
-/// Creates a child at the realm, of an instance in a collection.
-fn tell_of_child(
-    realm: &mut Realm,
-    alloc: Global,
-    caller: u32,
-    parent: u64,
-    coll: &Name,
-    name: &Name,
-    url: &Text,
-    gives: &List<Give>,
-) -> Result<Reply, NoStep>
-    ensures steps { let event = event.Create parent coll.now name.now url.now gives.now in
-        StepsBy realm.old realm.new caller event result }
-    ensures unhindered { IfErr result (RefusesQuiet realm.old) }
-{
-    let (coll, name, url, gives) = four(coll, name, url, gives)?;
-    realm.create(alloc, caller, parent, coll, name, url, gives)
-}
-
-/// Makes the event at the realm that asks this of the instance of this incarnation.
-fn tell_request(
-    realm: &mut Realm,
-    alloc: Global,
-    caller: u32,
-    request: Request<'_>,
-    inc: u64,
-) -> Result<Reply, NoStep>
-    ensures steps { StepsBy realm.old realm.new caller (event_for request.entry inc) result }
-    ensures busy { IfErr result (IsBusy (world_of realm.old) (event_for request.entry inc)) }
-{
-    match request {
-        Request::Create(coll, name, url, gives) => {
-            tell_of_child(realm, alloc, caller, inc, coll, name, url, gives)
-        }
-        Request::List(coll) => {
-            let coll = coll.clone()?;
-            realm.list(alloc, caller, inc, coll)
-        }
-        Request::OpenUse(path) => {
-            let path = path.clone()?;
-            realm.open_use(alloc, caller, inc, path)
-        }
-        Request::OpenExposed(name) => {
-            let name = name.clone()?;
-            realm.open_exposed(alloc, caller, inc, name)
-        }
-        Request::Route(path) => {
-            let path = path.clone()?;
-            realm.route(alloc, caller, inc, path)
-        }
-        Request::Show => realm.show(alloc, caller, inc),
-        Request::Survey => realm.survey(alloc, caller, inc),
-        Request::Exited => realm.exited(alloc, caller, inc),
-    }
-}
-
-/// Makes one event at the realm.
-fn tell(realm: &mut Realm, alloc: Global, caller: u32, wish: EventRef<'_>) -> Result<Reply, NoStep>
-    requires ready { IsLegal realm.old → TreeAllows (world_of realm.old) (event_of wish) }
-    ensures legal { IsLegal realm.old }
-    ensures steps { StepsBy realm.old realm.new caller (event_of wish.entry) result }
-    ensures busy { IfErr result (IsBusy (world_of realm.old) (event_of wish.entry)) }
-{
-    check_history(realm);
-    match wish {
-        EventRef::Find(moniker) => {
-            let moniker = moniker.clone()?;
-            realm.find(alloc, caller, moniker)
-        }
-        EventRef::Ask(request, inc) => tell_request(realm, alloc, caller, request, inc),
-        EventRef::Begin(kind, inc) => realm.begin(alloc, caller, kind, inc),
-        EventRef::Mark(doom, inc) => realm.mark(caller, doom, inc),
-        EventRef::Pick(target) => realm.pick(alloc, caller, target),
-        EventRef::Purge(inc) => realm.purge(alloc, caller, inc),
-        EventRef::Reap(inc) => realm.reap(alloc, caller, inc),
-    }
 }
 
 /// Ends an action at the realm.
@@ -164,13 +81,16 @@ impl Manager {
         ensures same { IsSamePass (frame_of pass) pass result.0 }
         ensures turned { Turned (event_of wish.entry) pass result.0 result.1 }
         ensures busy { let world = world_after (frame_of pass) result.0.seen in
-            IfErr result.1 (IsBusy world (event_of wish.entry)) }
+            (action : ℕ) → result.1 ≡ Err (NoStep.Busy action)
+            → EventWaitsFor world (event_of wish.entry) action }
     {
         due_events_stay();
         let caller = pass.caller();
         self.permit.take(rt, caller);
         let mut held = self.turn.enter(rt, pass);
-        let went = tell(held.state(), alloc, caller, wish);
+        let realm = held.state();
+        check_history(realm);
+        let went = realm.step(alloc, caller, wish);
         (self.turn.leave(held), went)
     }
 

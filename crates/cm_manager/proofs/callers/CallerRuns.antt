@@ -18,22 +18,19 @@ use Rattle.cm_world.specs.declared.reply.Reply.{Reply}
 use Rattle.cm_world.specs.declared.reply.Reply.TheVariants as reply
 use Rattle.cm_world.specs.Step.{MayEnd}
 use Rattle.cm_laws.specs.Laws.{IsJoined}
-use Rattle.cm_answers.specs.declared.question.Question.{Question}
-use Rattle.cm_answers.specs.Questions.{asked_by}
+use Rattle.cm_command.specs.declared.command.Command.{Command}
 use Rattle.cm_manager.specs.declared.began.Began.{Began}
 use Rattle.cm_manager.specs.declared.began.Began.TheVariants as began
 use Rattle.cm_manager.specs.declared.began.Launch.{Launch}
 use Rattle.cm_manager.specs.Acting.{BeginRun, StartsBy}
 use Rattle.cm_manager.specs.Asking.{RecordsEvent, RecordsOutcome, frame_of, is_asked, is_plain}
 use Rattle.cm_manager.specs.Caller.{CallerView, IsSameCaller, TakesTurns, WorksOutsideTurn, CallerWay, CallerRuns, CallerPerforms, CallerFinds}
-use Rattle.cm_manager.specs.Calls.{Finding, GoesOnWithRow}
+use Rattle.cm_manager.specs.Calls.{CallWay, Calls, Finding, GoesOnWithRow, OnRow}
 use Rattle.cm_manager.specs.Contract.{RealmPass, GatesView, IsSamePass, IsSubcall}
 use Rattle.cm_manager.specs.Doing.{Did, FitsAction}
 use Rattle.cm_manager.specs.Managers.{ManagerView}
-use Rattle.cm_manager.specs.Questions.{AnswersTo}
 use Rattle.cm_manager.specs.Runs.{RetriesEvent}
 use Rattle.cm_manager.specs.Turns.{AddsWithinRoom, world_after}
-use Rattle.cm_manager.proofs.calling.Calling.{question_called}
 use Rattle.cm_manager.proofs.calling.Helping.{helps_as, helps_nothing, helps_then}
 use Rattle.cm_manager.proofs.onward.Begins.{begun_may, joined_may, begun_help, joined_help, needs_help, quiet_help, cut_help}
 use Rattle.cm_manager.proofs.onward.Onward.{by_first, known_next}
@@ -155,20 +152,24 @@ cut_event e x s t turns asked = turns_run _ s t turns (cut_trying s.manager.mani
 
 -- ---- a call
 
--- what is asked of a target is the call that its command names
-pub performs_found : (t : Target) (q : Question) (s u v : CallerView) (row : Result ℕ Refusal) (i : ℕ) (a : Result Answer Refusal) → row ≡ Ok i → CallerFinds t s u row → CallerRuns (λ f c x y. AnswersTo f c q i x y a) u v → CallerPerforms (asked_by t q) s v a
-performs_found (target.Inc n) q s u v row i a is finds answers =
+-- a part of a call of a target that goes on with its row, and the command of which that is the call
+abbrev pub IsCallOf : Target → (Frame → ℕ → ℕ → CallWay (Result Answer Refusal)) → Command → Type 0
+IsCallOf t To command = (f : Frame) (c : ℕ) (x y : List Entry) (a : Result Answer Refusal) → OnRow f c t (To f c) x y a → Calls f c command x y a
+
+-- what is done at the row of a target is the call of its command
+pub performs_found : (t : Target) (To : Frame → ℕ → ℕ → CallWay (Result Answer Refusal)) (command : Command) → IsCallOf t To command → (s u v : CallerView) (row : Result ℕ Refusal) (i : ℕ) (a : Result Answer Refusal) → row ≡ Ok i → CallerFinds t s u row → CallerRuns (λ f c x y. To f c i x y a) u v → CallerPerforms command s v a
+performs_found (target.Inc n) To command called s u v row i a is finds answers =
     runs_as _ _ s v
-    (λ f c x y way. question_called f c (target.Inc n) q x y a (record { row = Ok n; h₁ = x; finding = (refl, refl); behind = subst (λ (j : ℕ). AnswersTo f c q j x y a) (sym (Ok_same finds.1 is)) way }))
-    (subst (λ (z : CallerView). CallerRuns (λ f c x y. AnswersTo f c q i x y a) z v) finds.0 answers)
-performs_found (target.Named m) q s u v row i a is finds answers =
-    runs_then (λ f c x y. Finding f c (target.Named m) x y row) (λ f c x y. AnswersTo f c q i x y a) _ s u v
-    (λ f c x y z first second. question_called f c (target.Named m) q x z a (record { row = row; h₁ = y; finding = first; behind = subst (λ (o : Result ℕ Refusal). GoesOnWithRow o (AnswersTo f c q) y z a) (sym is) second }))
+    (λ f c x y way. called f c x y a (record { row = Ok n; h₁ = x; finding = (refl, refl); behind = subst (λ (j : ℕ). To f c j x y a) (sym (Ok_same finds.1 is)) way }))
+    (subst (λ (z : CallerView). CallerRuns (λ f c x y. To f c i x y a) z v) finds.0 answers)
+performs_found (target.Named m) To command called s u v row i a is finds answers =
+    runs_then (λ f c x y. Finding f c (target.Named m) x y row) (λ f c x y. To f c i x y a) _ s u v
+    (λ f c x y z first second. called f c x z a (record { row = row; h₁ = y; finding = first; behind = subst (λ (o : Result ℕ Refusal). GoesOnWithRow o (To f c) y z a) (sym is) second }))
     finds answers
 
-pub performs_missed : (t : Target) (q : Question) (s u : CallerView) (row : Result ℕ Refusal) (x : Refusal) → row ≡ Err x → CallerFinds t s u row → CallerPerforms (asked_by t q) s u (Err x)
-performs_missed (target.Inc n) q s u row x is finds = absurd (Ok_not_Err finds.1 is)
-performs_missed (target.Named m) q s u row x is finds =
+pub performs_missed : (t : Target) (To : Frame → ℕ → ℕ → CallWay (Result Answer Refusal)) (command : Command) → IsCallOf t To command → (s u : CallerView) (row : Result ℕ Refusal) (x : Refusal) → row ≡ Err x → CallerFinds t s u row → CallerPerforms command s u (Err x)
+performs_missed (target.Inc n) To command called s u row x is finds = absurd (Ok_not_Err finds.1 is)
+performs_missed (target.Named m) To command called s u row x is finds =
     runs_as _ _ s u
-    (λ f c a b way. question_called f c (target.Named m) q a b (Err x) (record { row = row; h₁ = b; finding = way; behind = subst (λ (o : Result ℕ Refusal). GoesOnWithRow o (AnswersTo f c q) b b (Err x)) (sym is) (refl, refl) }))
+    (λ f c a b way. called f c a b (Err x) (record { row = row; h₁ = b; finding = way; behind = subst (λ (o : Result ℕ Refusal). GoesOnWithRow o (To f c) b b (Err x)) (sym is) (refl, refl) }))
     finds

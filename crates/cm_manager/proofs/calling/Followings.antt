@@ -7,8 +7,8 @@ use Rattle.cm_world.specs.declared.reply.Reply.{Reply}
 use Rattle.cm_world.specs.declared.reply.Reply.TheVariants as reply
 use Rattle.cm_world.specs.Expiring.{runs_once}
 use Rattle.cm_answers.specs.declared.question.Follow.TheVariants as next
-use Rattle.cm_answers.specs.declared.question.Request.{Request}
-use Rattle.cm_answers.specs.declared.question.Request.TheVariants as request
+use Rattle.cm_steps.specs.declared.request.Request.{Request}
+use Rattle.cm_steps.specs.declared.request.Request.TheVariants as request
 use Rattle.cm_manager.specs.Turns.{IsLaterHistory, world_after}
 use Rattle.cm_answers.specs.AnswersInside.{created_in, has_left}
 use Rattle.cm_manager.specs.Calls.{CallWay, Then, OnceCreated, SweptLeft}

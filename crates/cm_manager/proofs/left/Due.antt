@@ -11,8 +11,9 @@ use Rattle.cm_world.proofs.trees.Histories.{Legal-split, replay-append}
 use Rattle.cm_laws.specs.Shutdowns.{IsLeaving, IsMarked}
 use Rattle.cm_laws.specs.ShutdownsInside.{IsShutBelow, MarksStay, MarkedMayClose, OverStays, OverMayPurge}
 use Rattle.cm_laws.specs.Story.{Story, world_of, IsLegal}
+use Rattle.cm_steps.specs.Requests.{TreeAllows}
 use Rattle.cm_manager.specs.Turns.{world_after}
-use Rattle.cm_manager.specs.Asking.{frame_in, frame_of, IsDue, TreeAllows, DueStays, DueIsOpen}
+use Rattle.cm_manager.specs.Asking.{frame_in, frame_of, IsDue, DueStays, DueIsOpen}
 use Rattle.cm_manager.specs.Contract.{RealmPass, IsSamePass}
 use Rattle.cm_manager.proofs.onward.Turning.{Entered}
 

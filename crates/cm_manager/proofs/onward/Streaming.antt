@@ -25,7 +25,7 @@ use Rattle.cm_laws.specs.Story.{Story, world_of, IsLegal, AddsEntry, entry_of}
 use Rattle.cm_steps.specs.Steps.{RealmHasRoom}
 use Rattle.cm_steps.specs.declared.nostep.NoStep.{NoStep}
 use Rattle.cm_steps.specs.declared.nostep.NoStep.TheVariants as nostep
-use Rattle.cm_manager.specs.Turns.{AddsWithinRoom, wanted, need}
+use Rattle.cm_manager.specs.Turns.{AddsWithinRoom, wanted}
 use Rattle.cm_manager.specs.Contract.{RealmPass, GatesView, IsSamePass, IsSubcall}
 use Rattle.cm_manager.specs.Work.{Manifests}
 use Rattle.cm_manager.specs.Asking.{frame_in, frame_of}

@@ -1,5 +1,5 @@
 -- What a turn comes to, from what its step is.
-use Rattle.std.proofs.Common.{◌≡◌, ℕ, ◌<◌, ◌≤◌, List, [], ◌∷◌, ◌++◌, All, Bool, Option, Some, None, Result, Ok, Err, IfOk, IfErr, IfNone, OnOk, OnErr, refl, sym, ap, subst, ◌∙◌, append-nil}
+use Rattle.std.proofs.Common.{◌≡◌, ℕ, ◌<◌, ◌≤◌, List, [], ◌∷◌, ◌++◌, All, Bool, Option, Some, None, Result, Ok, Err, IfNone, refl, sym, ap, subst, ◌∙◌, append-nil}
 use Rattle.std.proofs.lemmas.List.Elements.{All-cons, All-nil}
 use Rattle.cm_turn.specs.History.{StartsWith}
 use Rattle.cm_turn.specs.Passes.{HeldView, Enters, LeavesTurn, seen_up_to, with_state}
@@ -19,28 +19,18 @@ use Rattle.cm_world.specs.Step.{MayEnd}
 use Rattle.cm_world.specs.Legal.{Legal}
 use Rattle.cm_world.proofs.trees.Histories.{Legal-push}
 use Rattle.cm_laws.specs.Story.{Story, world_of, IsLegal, AddsEntry, entry_of}
-use Rattle.cm_steps.specs.Steps.{RealmHasRoom, LacksRoom, RefusesStep}
+use Rattle.cm_steps.specs.Needs.{need}
+use Rattle.cm_steps.specs.Requests.{Steps, RefusesEvent, EventWaitsFor}
+use Rattle.cm_steps.specs.Steps.{RealmHasRoom, LacksRoom}
 use Rattle.cm_laws.specs.Laws.{IsJoined}
 use Rattle.cm_steps.specs.declared.nostep.NoStep.{NoStep}
 use Rattle.cm_steps.specs.declared.nostep.NoStep.TheVariants as nostep
-use Rattle.cm_manager.specs.Turns.{world_after, own_entries, wanted, need, IsLaterHistory, AddsOneEntry, AddsWithinRoom, EndsWithoutEntry}
+use Rattle.cm_manager.specs.Turns.{world_after, own_entries, wanted, IsLaterHistory, AddsOneEntry, AddsWithinRoom, EndsWithoutEntry}
 use Rattle.cm_manager.specs.Contract.{RealmPass, IsSamePass}
-use Rattle.cm_manager.specs.Asking.{frame_in, frame_of, RefusesRoom, StepsBy, AwaitsBy, IsBusy, Turned, RecordsEvent, Awaited, RecordsOutcome}
+use Rattle.cm_manager.specs.Asking.{frame_in, frame_of, AwaitsBy, Turned, RecordsEvent, Awaited, RecordsOutcome}
 use Rattle.cm_manager.proofs.calling.Joining.{later-trans, makes-later, asks-later}
 use Rattle.cm_manager.proofs.left.Standing.{ends_later, joins_later}
 use Rattle.cm_turn.proofs.Histories.{starts-trans}
-
--- ---- a step
-
-forget : (s : Story) (more : ℕ) (Waits : ℕ → Type 0) (x : NoStep) → RefusesStep s more Waits x → RefusesRoom s more x
-forget s more Waits (nostep.Busy a) is = tt
-forget s more Waits nostep.HistoryFull is = is
-forget s more Waits nostep.Memory is = tt
-
--- the clauses of a step in one
-pub steps_by : (old new : Story) (c : ℕ) (e : Event) (Waits : ℕ → Type 0) (r : Result Reply NoStep) → IfOk r (λ x. AddsEntry old new c e x) → OnOk r (RealmHasRoom old (need e)) → IfErr r (RefusesStep old (need e) Waits) → OnErr r (new ≡ old) → StepsBy old new c e r
-steps_by old new c e Waits (Ok x) tells room refused kept = (tells, room)
-steps_by old new c e Waits (Err x) tells room refused kept = (kept, forget old (need e) Waits x refused)
 
 -- ---- what a state and a pass are behind a step
 
@@ -151,27 +141,30 @@ abbrev pub entries_of : ℕ → Event → Result Reply NoStep → List Entry
 entries_of c e (Ok r) = entry_of c e r ∷ []
 entries_of c e (Err x) = []
 
-pub steps_on : (c : ℕ) (old new : Story) (e : Event) (r : Result Reply NoStep) → IsLegal old → StepsBy old new c e r → ExtendsPass c old new (entries_of c e r)
-steps_on c old new e (Ok r) legal is = tells_on c old new e r legal is.0
-steps_on c old new e (Err x) legal is = same_on c old new legal is.0
+pub steps_on : (c : ℕ) (old new : Story) (e : Event) (r : Result Reply NoStep) → IsLegal old → Steps old new c e r → ExtendsPass c old new (entries_of c e r)
+steps_on c old new e (Ok r) legal is = tells_on c old new e r legal is.step
+steps_on c old new e (Err x) legal is = same_on c old new legal is.err
 
-pub turned_by : (p q : RealmPass) (s t : Story) (e : Event) (r : Result Reply NoStep) → Took p q s t (entries_of p.caller e r) → StepsBy s t p.caller e r → Turned e p q r
+pub turned_by : (p q : RealmPass) (s t : Story) (e : Event) (r : Result Reply NoStep) → Took p q s t (entries_of p.caller e r) → Steps s t p.caller e r → Turned e p q r
 unfolding makes_by
 turned_by p q s t e (Ok r) is step = (
-  record { made = makes_by p q s t e r is; room = room_in p s e is.entered.frame step.1 },
+  record { made = makes_by p q s t e r is; room = room_in p s e is.entered.frame step.room },
   grown p q s t (entry_of p.caller e r ∷ []) is,
 )
 turned_by p q s t e (Err (nostep.Busy a)) is step = nothing_by p q s t is
 turned_by p q s t e (Err nostep.HistoryFull) is step =
     let n = nothing_by p q s t is in
-    let lacks = subst (λ (l : List Entry). (frame_of p).limits.entries < wanted (frame_of p) l e) (sym (is.left.seen ∙ is.goes.entries ∙ append-nil s.entries)) (lacks_in p s e is.entered.frame step.1) in
+    let lacks = subst (λ (l : List Entry). (frame_of p).limits.entries < wanted (frame_of p) l e) (sym (is.left.seen ∙ is.goes.entries ∙ append-nil s.entries)) (lacks_in p s e is.entered.frame step.refused) in
     ((n.0, lacks), n.1)
 turned_by p q s t e (Err nostep.Memory) is step = nothing_by p q s t is
 
 -- what the event has to wait for, it has to wait for in what the pass has seen then
-pub busy_by : (p q : RealmPass) (s t : Story) (c : ℕ) (e : Event) (r : Result Reply NoStep) → Took p q s t (entries_of c e r) → IfErr r (IsBusy (world_of s) e) → IfErr r (IsBusy (world_after (frame_of p) q.seen) e)
-busy_by p q s t c e (Ok r) is busy = tt
-busy_by p q s t c e (Err x) is busy = found_by p q s t (λ (w : World). IsBusy w e x) is busy
+pub busy_by : (p q : RealmPass) (s t : Story) (c : ℕ) (e : Event) (r : Result Reply NoStep) → Took p q s t (entries_of c e r) → Steps s t c e r → (a : ℕ) → r ≡ Err (nostep.Busy a) → EventWaitsFor (world_after (frame_of p) q.seen) e a
+busy_by p q s t c e (Ok r) is step a busy = absurd (cc busy)
+busy_by p q s t c e (Err x) is step a busy =
+    let same : x ≡ nostep.Busy a = cc busy in
+    let waits : RefusesEvent s e (nostep.Busy a) = subst (λ (y : NoStep). RefusesEvent s e y) same step.refused in
+    found_by p q s t (λ (w : World). EventWaitsFor w e a) is waits.1
 
 pub told_by : (p q : RealmPass) (s t : Story) (e : Event) (o : Outcome) → Took p q s t (entry_of p.caller e (reply.Ended o) ∷ []) → RecordsOutcome p q e o
 told_by p q s t e o is = record {
@@ -230,9 +223,9 @@ took_by p h q s t c more e is legal by goes left = record {
 }
 
 -- the turn's event, told by the caller's number
-pub turned_as : (p q : RealmPass) (s t : Story) (c : ℕ) (e : Event) (r : Result Reply NoStep) → c ≡ p.caller → Took p q s t (entries_of c e r) → StepsBy s t c e r → Turned e p q r
+pub turned_as : (p q : RealmPass) (s t : Story) (c : ℕ) (e : Event) (r : Result Reply NoStep) → c ≡ p.caller → Took p q s t (entries_of c e r) → Steps s t c e r → Turned e p q r
 turned_as p q s t c e r by is step =
-    turned_by p q s t e r (subst (λ (n : ℕ). Took p q s t (entries_of n e r)) by is) (subst (λ (n : ℕ). StepsBy s t n e r) by step)
+    turned_by p q s t e r (subst (λ (n : ℕ). Took p q s t (entries_of n e r)) by is) (subst (λ (n : ℕ). Steps s t n e r) by step)
 
 -- ---- turns without an entry
 

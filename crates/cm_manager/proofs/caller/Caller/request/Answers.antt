@@ -1,5 +1,5 @@
 use Rattle.std.proofs.Common.{sym, ◌∙◌}
-use Rattle.cm_answers.specs.Questions.{event_for}
+use Rattle.cm_steps.specs.Requests.{event_for}
 use Rattle.cm_manager.specs.Questions.{FollowsBy}
 use Rattle.cm_manager.specs.Runs.{StartsSingleRun}
 use Rattle.cm_manager.specs.Sweeps.{Sweeps}

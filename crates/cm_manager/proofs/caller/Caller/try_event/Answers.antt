@@ -2,7 +2,7 @@ use Rattle.std.proofs.lemmas.Result.{err_from_is_err_and}
 use Rattle.std.proofs.Common.{Ok, Err, List, subst, sym, ◌∙◌}
 use Rattle.cm_world.specs.declared.reply.Entry.{Entry}
 use Rattle.cm_world.specs.declared.reply.Reply.{Reply}
-use Rattle.cm_answers.specs.Questions.{event_of}
+use Rattle.cm_steps.specs.Requests.{event_of}
 use Rattle.cm_manager.specs.Runs.{RunsAction, RetriesEvent}
 use Rattle.cm_manager.specs.Turns.{AddsWithinRoom}
 use Rattle.cm_manager.proofs.callers.CallerRuns.{asked_runs, cut_event, runs_as, runs_then, loop_on}

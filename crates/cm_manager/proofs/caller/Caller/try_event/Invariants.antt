@@ -1,4 +1,4 @@
-use Rattle.cm_answers.specs.Questions.{event_of}
+use Rattle.cm_steps.specs.Requests.{event_of}
 use Rattle.cm_manager.specs.Runs.{RetriesEvent}
 use Rattle.cm_manager.proofs.callers.CallerRuns.{CallerLoop}
 use Rattle.cm_manager.proofs.caller.Caller.try_event.Given as goal

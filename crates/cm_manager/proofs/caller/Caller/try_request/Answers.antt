@@ -1,8 +1,8 @@
-use Rattle.cm_manager.proofs.calling.Calling.{request_asked, request_plain}
+use Rattle.cm_manager.proofs.calling.Calling.{single_asked, single_plain}
 use Rattle.cm_manager.proofs.caller.Caller.try_request.Goals as goal
 
 pub try_event-requires-clause-asked : goal.try_event-requires-clause-asked
-try_event-requires-clause-asked g c κs within = request_asked c.args.request c.args.inc
+try_event-requires-clause-asked g c κs within = single_asked c.args.request c.args.inc c.requires
 
 pub try_event-requires-clause-plain : goal.try_event-requires-clause-plain
-try_event-requires-clause-plain g c κs within = request_plain c.args.request c.args.inc
+try_event-requires-clause-plain g c κs within = single_plain c.args.request c.args.inc c.requires
