@@ -1,21 +1,20 @@
 //! The step that an event of a journal comes to.
 
-ghost use Rattle.std.specs.Prelude.{◌≡◌, IfOk};
+ghost use Rattle.std.specs.Prelude.{◌≡◌, ◌≢◌, ℕ, IfOk};
+ghost use Rattle.cm_world.specs.declared.action.Finish.{Finish as Ends};
 ghost use Rattle.cm_world.specs.End.{HasValid};
 ghost use Rattle.cm_world.specs.Step.{IsEnabled, MayAwait, MayEnd};
-ghost use Rattle.cm_world.specs.Laws.{IsPick};
 ghost use Rattle.cm_laws.specs.Story.{world_of, AddsEntry};
 ghost use Rattle.cm_steps.specs.Ends.{finish_of};
+ghost use Rattle.cm_steps.specs.Requests.{event_of};
 
-use cm_decl::Give;
-use cm_names::{List, Name, Text};
-use cm_steps::{Ending, NoStep, Realm};
+use cm_steps::{Ending, EventRef, NoStep, Realm, Request};
 use cm_table::Prepared;
 use cm_world::{Event, Finish, Reply};
 use std::alloc::Global;
 
-/// Makes the step of an event that its caller may make now and that isn't a pick. What the event names
-/// is copied for the realm's history.
+/// Makes the step of an event that its caller may make now. What the event names is copied for the
+/// realm's history.
 ///
 /// `Err` where memory runs out. An event that may be made waits for no action, and no journal within
 /// its limit has as many entries as the realm takes, so nothing else keeps a step from being made.
@@ -25,52 +24,43 @@ pub fn make_step(
     caller: u32,
     event: &Event,
 ) -> Result<Reply, NoStep>
-    requires enabled { IsEnabled (world_of realm.old) caller event.now }
-    requires other { IsPick event.now → ⊥ }
+    requires { IsEnabled (world_of realm.old) caller event.now }
     ensures { IfOk result (λ reply. AddsEntry realm.old realm.new caller event.now reply) }
 {
     match event {
-        Event::Find(moniker) => realm.find(alloc, caller, moniker.clone()?),
-        Event::Begin(kind, inc) => realm.begin(alloc, caller, *kind, *inc),
         Event::End(action, finish) => end(alloc, realm, caller, *action, finish),
         Event::Await(action) => await_end(realm, caller, *action),
-        Event::Create(parent, coll, name, url, gives) => {
-            create(alloc, realm, caller, *parent, coll, name, url, gives)
-        }
-        Event::Mark(doom, inc) => realm.mark(caller, *doom, *inc),
-        Event::Pick(_target) => unreachable!(),
-        Event::Purge(inc) => realm.purge(alloc, caller, *inc),
-        Event::Route(inc, path) => realm.route(alloc, caller, *inc, path.clone()?),
-        Event::OpenUse(inc, path) => realm.open_use(alloc, caller, *inc, path.clone()?),
-        Event::OpenExposed(inc, name) => realm.open_exposed(alloc, caller, *inc, name.clone()?),
-        Event::Listing(inc, coll) => realm.list(alloc, caller, *inc, coll.clone()?),
-        Event::Show(inc) => realm.show(alloc, caller, *inc),
-        Event::Survey(inc) => realm.survey(alloc, caller, *inc),
-        Event::Exited(inc) => realm.exited(alloc, caller, *inc),
-        Event::Tail(inc, from) => realm.tail(caller, *inc, *from),
-        Event::Reap(inc) => realm.reap(alloc, caller, *inc),
+        _ => realm.step(alloc, caller, lent(event)),
     }
 }
 
-/// Creates a child as an event says it.
-fn create(
-    alloc: Global,
-    realm: &mut Realm,
-    caller: u32,
-    parent: u64,
-    coll: &Name,
-    name: &Name,
-    url: &Text,
-    gives: &List<Give>,
-) -> Result<Reply, NoStep>
-    ensures { IfOk result (λ reply. AddsEntry realm.old realm.new caller
-        (Event.Create parent coll.now name.now url.now gives.now) reply) }
+/// An event that doesn't end an action, nor take its outcome, as it is lent to a realm.
+fn lent(event: &Event) -> EventRef<'_>
+    requires open { (action : ℕ) (finish : Ends) → event.now ≢ Event.End action finish }
+    requires joined { (action : ℕ) → event.now ≢ Event.Await action }
+    ensures { event_of result ≡ event.now }
 {
-    let coll = coll.clone()?;
-    let name = name.clone()?;
-    let url = url.clone()?;
-    let gives = gives.clone()?;
-    realm.create(alloc, caller, parent, coll, name, url, gives)
+    match event {
+        Event::Find(moniker) => EventRef::Find(moniker),
+        Event::Begin(kind, inc) => EventRef::Ask(Request::Begin(*kind), *inc),
+        Event::End(_, _) => unreachable!(),
+        Event::Await(_) => unreachable!(),
+        Event::Create(parent, coll, name, url, gives) => {
+            EventRef::Ask(Request::Create(coll, name, url, gives), *parent)
+        }
+        Event::Mark(doom, inc) => EventRef::Ask(Request::Mark(*doom), *inc),
+        Event::Pick(target) => EventRef::Pick(*target),
+        Event::Purge(inc) => EventRef::Purge(*inc),
+        Event::Route(inc, path) => EventRef::Ask(Request::Route(path), *inc),
+        Event::OpenUse(inc, path) => EventRef::Ask(Request::OpenUse(path), *inc),
+        Event::OpenExposed(inc, name) => EventRef::Ask(Request::OpenExposed(name), *inc),
+        Event::Listing(inc, coll) => EventRef::Ask(Request::List(coll), *inc),
+        Event::Show(inc) => EventRef::Ask(Request::Show, *inc),
+        Event::Survey(inc) => EventRef::Ask(Request::Survey, *inc),
+        Event::Exited(inc) => EventRef::Ask(Request::Exited, *inc),
+        Event::Tail(inc, from) => EventRef::Ask(Request::Tail(*from), *inc),
+        Event::Reap(inc) => EventRef::Reap(*inc),
+    }
 }
 
 /// How an action ends that may end so. A declaration is shared with the event.
