@@ -74,7 +74,9 @@ pub const LIMITS: &str = "\
     3 route 0 /svc/log\n\
     3 open 0 /svc/log\n\
     3 open-exposed 0 data\n\
+    3 survey 0\n\
     3 reap 0\n\
+    3 purge 9\n\
     3 begin 0 start\n\
     3 exited 0\n\
     3 close 0\n\
@@ -95,6 +97,15 @@ pub const LIMITS: &str = "\
     history full\n\
     history full\n\
     history full\n\
+    history full\n\
+    history full\n\
+    == realm 9 9 surveys and removes nothing that doesn't live\n\
+    3 survey 9\n\
+    3 purge 9\n\
+    3 purge 0\n\
+    =>\n\
+    1 3 survey 9 => gone 9\n\
+    2 3 purge 9 => purged-before\n\
     == realm 9 2 keeps room for the end of an action\n\
     0 begin 0 resolve\n\
     0 show 0\n\

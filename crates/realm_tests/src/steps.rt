@@ -11,7 +11,7 @@ use crate::meanwhile::{doom_while_starting, join_and_decline};
 use crate::words::{line_of, moniker_of, name_of, path_of};
 use cm_names::{List, Memory, Text};
 use cm_steps::{NoStep, Realm};
-use cm_world::{ActKind, Entry, Limits};
+use cm_world::{ActKind, Entry, Event, Limits};
 use std::alloc::Global;
 
 /// A new realm with these limits.
@@ -82,6 +82,7 @@ fn look(realm: &mut Realm, alloc: Global, step: &Step<'_>) -> Option<Option<NoSt
         "route" => realm.route(alloc, caller, inc, path_of(alloc, word)?),
         "open" => realm.open_use(alloc, caller, inc, path_of(alloc, word)?),
         "open-exposed" => realm.open_exposed(alloc, caller, inc, name_of(alloc, word)?),
+        "survey" => realm.survey(alloc, caller, inc),
         "reap" => realm.reap(alloc, caller, inc),
         _ => return change(realm, alloc, step),
     };
@@ -96,10 +97,24 @@ fn change(realm: &mut Realm, alloc: Global, step: &Step<'_>) -> Option<Option<No
         "exited" => realm.exited(alloc, caller, inc),
         "close" => realm.mark(caller, false, inc),
         "doom" => realm.mark(caller, true, inc),
+        "purge" => return Some(purge(realm, alloc, caller, inc)),
         "create" => return create(realm, alloc, caller, inc, word),
         _ => return end(realm, alloc, step),
     };
     Some(made.err())
+}
+
+/// Removes an instance that may be removed: why no step was made, or none where one was, and none where the
+/// instance may not be removed.
+fn purge(realm: &mut Realm, alloc: Global, caller: u32, inc: u64) -> Option<NoStep> {
+    let event = Event::Purge(inc);
+    let may = realm.enabled(alloc, caller, &event);
+    drop(event);
+    match may {
+        Ok(true) => realm.purge(alloc, caller, inc).err(),
+        Ok(false) => None,
+        Err(_) => Some(NoStep::Memory),
+    }
 }
 
 /// Takes the steps of caller 0 that begin an action and end it, and in some those of caller 1
