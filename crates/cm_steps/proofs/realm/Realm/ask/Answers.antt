@@ -40,4 +40,4 @@ tell-requires-clause-step c =
 pub returns-clause-step : goal.returns-clause-step
 returns-clause-step c =
     subst (λ e. IfOk c.tell.result (λ told. AddsEntry c.args.self.now c.tell.new.self c.args.caller e told))
-    (c.event_of-event.ensures ∙ ap (event_of c.args.asking c.args.inc) c.in_ok-path.ensures) c.tell.ensures.step
+    (c.event_of-event.ensures ∙ ap (event_of c.args.asking c.args.inc) c.in_ok-path.ensures.cases) c.tell.ensures.step
