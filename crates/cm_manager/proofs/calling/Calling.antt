@@ -29,12 +29,14 @@ single_is (request.Mark doom) begin mark tail = absurd (mark doom refl)
 single_is (request.Tail from) begin mark tail = absurd (tail from refl)
 single_is _ begin mark tail = refl
 
+-- The event of a request that comes to one turn is one that a call asks for.
 pub single_asked : (r : Request) (i : ℕ) → IsTrue (is_single r) → IsTrue (is_asked (event_for r i))
 single_asked (request.Begin kind) i single = refl
 single_asked (request.Mark doom) i single = refl
 single_asked (request.Tail from) i single = absurd (true≢false (sym single))
 single_asked _ i single = refl
 
+-- The event of a request that comes to one turn may come at any time, and begins no action.
 pub single_plain : (r : Request) (i : ℕ) → IsTrue (is_single r) → IsTrue (is_plain (event_for r i))
 single_plain (request.Begin kind) i single = absurd (true≢false (sym single))
 single_plain _ i single = refl
