@@ -5,14 +5,14 @@ use Rattle.cm_manager.specs.Shutdowns.{Destroys, Shuts}
 use Rattle.cm_manager.proofs.callers.CallerRuns.{runs_as}
 use Rattle.cm_manager.proofs.caller.Caller.mark_row.Goals as goal
 
-pub returns-in-then : goal.returns-in-then
-returns-in-then g c =
+pub returns-then-doom : goal.returns-then-doom
+returns-then-doom g c =
     rw c.if-doom.true
     (runs_as (λ f n x y. Destroys f n c.args.inc x y c.destroy_row.result) (λ f n x y. ComesToAnswer answer.Destroyed (Destroys f n c.args.inc) x y c.unless_ended.result) _ _
     (λ f n x y way. (c.destroy_row.result, way, c.unless_ended.ensures)) c.destroy_row.ensures)
 
-pub returns-in-else : goal.returns-in-else
-returns-in-else g c =
+pub returns-else-doom : goal.returns-else-doom
+returns-else-doom g c =
     rw c.if-doom.false
-    (runs_as (λ f n x y. Shuts f n false c.args.inc x y c.shut_row.result) (λ f n x y. ComesToAnswer answer.Shut (Shuts f n false c.args.inc) x y c.unless_ended-in-else.result) _ _
-    (λ f n x y way. (c.shut_row.result, way, c.unless_ended-in-else.ensures)) c.shut_row.ensures.runs)
+    (runs_as (λ f n x y. Shuts f n false c.args.inc x y c.shut_row.result) (λ f n x y. ComesToAnswer answer.Shut (Shuts f n false c.args.inc) x y c.unless_ended-else-doom.result) _ _
+    (λ f n x y way. (c.shut_row.result, way, c.unless_ended-else-doom.ensures)) c.shut_row.ensures.runs)
