@@ -438,7 +438,11 @@ impl Realm {
     ) -> Result<Reply, NoStep>
         ensures { Steps self.old self.new caller (Event.OpenExposed inc name) result }
     {
-        self.step(alloc, caller, EventRef::Ask(Request::OpenExposed(&name), inc))
+        self.step(
+            alloc,
+            caller,
+            EventRef::Ask(Request::OpenExposed(&name), inc),
+        )
     }
 
     /// Makes the step of an opening of what is exposed, where there is room.

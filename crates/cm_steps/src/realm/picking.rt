@@ -45,7 +45,12 @@ impl Realm {
     }
 
     /// Makes the step of a pick, where there is room.
-    pub(super) fn pick_at(&mut self, alloc: Global, caller: u32, target: u64) -> Result<Reply, NoStep>
+    pub(super) fn pick_at(
+        &mut self,
+        alloc: Global,
+        caller: u32,
+        target: u64,
+    ) -> Result<Reply, NoStep>
         requires closing { IsTrue (may_close (world_of self.old).rows target) }
         requires room { RealmHasRoom self.old 2 }
         ensures step { IfOk result (λ reply.

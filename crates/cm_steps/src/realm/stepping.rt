@@ -26,12 +26,7 @@ impl Realm {
     /// - `Busy` with the number of the action that the event has to wait for;
     /// - `HistoryFull` where the entries that it needs don't fit, which is tried first;
     /// - `Memory` where memory runs out.
-    pub fn step(
-        &mut self,
-        alloc: Global,
-        caller: u32,
-        event: EventRef<'_>,
-    ) -> Result<Reply, NoStep>
+    pub fn step(&mut self, alloc: Global, caller: u32, event: EventRef<'_>) -> Result<Reply, NoStep>
         requires { TreeAllows (world_of self.old) (event_of event) }
         ensures { Steps self.old self.new caller (event_of event.entry) result }
     {
