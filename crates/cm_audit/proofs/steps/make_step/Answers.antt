@@ -20,4 +20,4 @@ step-requires c =
 
 pub returns-in_default : goal.returns-in_default
 returns-in_default c =
-    subst (λ (e : Event). IfOk c.step.result (λ reply. AddsEntry c.args.realm.now c.step.new.realm c.args.caller e reply)) c.lent.ensures c.step.ensures.step
+    subst (λ (e : Event). IfOk c.step.result (λ reply. AddsEntry c.args.realm.now c.step.new.self c.args.caller e reply)) c.lent.ensures c.step.ensures.step
