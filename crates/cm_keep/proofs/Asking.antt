@@ -1,7 +1,7 @@
 -- Lemmas on what a place of files is asked.
 use Rattle.cm_keep.specs.declared.service.Unkept.{Unkept}
 use Rattle.cm_keep.specs.declared.service.Unkept.TheVariants as unkept
-use Rattle.cm_keep.specs.Files.{IsFaultLine, IsTold}
+use Rattle.cm_keep.specs.Files.{IsFaultLine, SaysWhyUnkept}
 use Rattle.std.specs.Prelude.{MatchResult, IfOk, IfErr, Ok}
 use Rattle.std.proofs.Common.{◌≡◌, ◌⊎◌, inl, inr, List, [], ◌∷◌, ◌++◌, true, false, Option, Some, None, Result, Err, OnErr, ap, sym, subst, ◌∙◌, append_assoc}
 use Rattle.cm_reply.specs.Lists.{TextBytes}
@@ -43,9 +43,9 @@ at_err {T} {E} {X} r e same told = subst (λ (q : Result T E). OnErr q X) (sym s
 
 -- what is made of the line that tells of a fault with a journal tells of that journal's place
 pub as_told : {E : Type 0} (place own : TextBytes) (line : Result TextBytes E) (u : Unkept) → own ≡ place → IfOk line (IsFaultLine own)
-    → MatchResult line (λ text. u ≡ unkept.Said text) (λ _. u ≡ unkept.Memory) → IsTold place u
-as_told place own (Ok text) u same is said = subst (λ (v : Unkept). IsTold place v) (sym said) (subst (λ (p : TextBytes). IsFaultLine p text) same is)
-as_told place own (Err e) u same is said = subst (λ (v : Unkept). IsTold place v) (sym said) tt
+    → MatchResult line (λ text. u ≡ unkept.Said text) (λ _. u ≡ unkept.Memory) → SaysWhyUnkept place u
+as_told place own (Ok text) u same is said = subst (λ (v : Unkept). SaysWhyUnkept place v) (sym said) (subst (λ (p : TextBytes). IsFaultLine p text) same is)
+as_told place own (Err e) u same is said = subst (λ (v : Unkept). SaysWhyUnkept place v) (sym said) tt
 
 -- what holds of the error that a result is holds where the result is one
 pub if_err : {T E : Type 0} (P : E → Type 0) (r : Result T E) (e : E) → r ≡ Err e → P e → IfErr r P

@@ -44,6 +44,6 @@ TellsWhere place beside line = (why : TextBytes) × (line
     ≡ codes "journal fault: " ++ (place ++ ((why ++ (codes "; it stands in " ++ beside)) ++ codes "\n")))
 
 -- why there is no journal at this path: lack of memory, or what such a line says
-abbrev pub IsTold : TextBytes → Unkept → Type 0
-IsTold place unkept.Memory = Unit {0}
-IsTold place (unkept.Said line) = IsFaultLine place line
+abbrev pub SaysWhyUnkept : TextBytes → Unkept → Type 0
+SaysWhyUnkept place unkept.Memory = Unit {0}
+SaysWhyUnkept place (unkept.Said line) = IsFaultLine place line

@@ -3,7 +3,7 @@
 ghost use Rattle.std.specs.Prelude.{◌≡◌, ◌⊎◌, true, [], ◌∷◌, IfErr, IfOk, IsOk, MatchResult, OnErr, OnOk};
 ghost use Rattle.cm_keep.specs.Asked.{Asks, AsksOneOf, failed_keeping, failing, names_at, placing, trying};
 ghost use Rattle.cm_keep.specs.Asked.{keeping as keeping_calls, unmade};
-ghost use Rattle.cm_keep.specs.Files.{IsTold, IsTried, NeverBegan, StandsAt, beside_name};
+ghost use Rattle.cm_keep.specs.Files.{SaysWhyUnkept, IsTried, NeverBegan, StandsAt, beside_name};
 ghost use Rattle.cm_keep.specs.Keeping.{Caused, IsKept, IsLeft, kept_text};
 ghost use Rattle.cm_keep.specs.Service.{Plans};
 ghost use Rattle.cm_keep.specs.declared.place.PlaceCall.TheVariants as call;
@@ -80,7 +80,7 @@ fn keeper_of<F: FilePlace + Drop>(
         (call.Create (beside_name keeping.now.at number) true ∷ [])) }
     ensures unmade { IfErr result (λ left.
         AsksOneOf (F.asked files) (F.asked left.0) (unmade (names_at keeping.now.at number))) }
-    ensures told { IfErr result (λ left. IsTold keeping.now.at left.1) }
+    ensures told { IfErr result (λ left. SaysWhyUnkept keeping.now.at left.1) }
 {
     match FileKeeper::new(alloc, files, number, &keeping.at) {
         Ok(keeper) => Ok(keeper),
@@ -102,7 +102,7 @@ pub fn try_keeping<F: FilePlace + Drop>(
         (Asks (F.asked files) (F.asked result.0) (trying (names_at keeping.now.at number))) }
     ensures unmade { OnErr result.1
         (AsksOneOf (F.asked files) (F.asked result.0) (unmade (names_at keeping.now.at number))) }
-    ensures told { IfErr result.1 (IsTold keeping.now.at) }
+    ensures told { IfErr result.1 (SaysWhyUnkept keeping.now.at) }
 {
     let mut keeper = match keeper_of(alloc, files, number, keeping) {
         Ok(keeper) => keeper,
@@ -158,7 +158,7 @@ pub fn keep_service<F: FilePlace + Drop>(
         ⊎ Asks (F.asked files) (F.asked result.0) (keeping_calls (names_at keeping.now.at number))) }
     ensures failed { OnErr result.1
         (AsksOneOf (F.asked files) (F.asked result.0) (failing (names_at keeping.now.at number))) }
-    ensures told { IfErr result.1 (IsTold keeping.now.at) }
+    ensures told { IfErr result.1 (SaysWhyUnkept keeping.now.at) }
 {
     if status != 0 && book.entries().is_empty() {
         return (files, Ok(()));

@@ -1,5 +1,5 @@
 use Rattle.std.proofs.Common.{ap, rules, ◌∙◌}
-use Rattle.cm_keep.specs.Files.{IsTold}
+use Rattle.cm_keep.specs.Files.{SaysWhyUnkept}
 use Rattle.cm_keep.specs.Asked.{FileNames}
 use Rattle.cm_keep.proofs.Asking.{as_told, at_err, failed_behind, if_err}
 use Rattle.cm_keep.proofs.service.keep_service.Goals.{in-Ok-keep_book, in-Err-Memory, in-Err-Failed}
@@ -20,5 +20,5 @@ returns-clause-told g c =
     elim c.match-keep_book.branch [
       | in-Ok-keep_book w ↦ search rules
       | in-Err-Memory w ↦ search rules
-      | in-Err-Failed w ↦ if_err (IsTold c.args.keeping.now.at) _ _ w.kept-is (as_told _ _ _ _ (ap (λ (n : FileNames). n.place) w.in-Err-Failed.ensures.names ∙ made.place) w.fault_line.ensures.line w.as_unkept.ensures)
+      | in-Err-Failed w ↦ if_err (SaysWhyUnkept c.args.keeping.now.at) _ _ w.kept-is (as_told _ _ _ _ (ap (λ (n : FileNames). n.place) w.in-Err-Failed.ensures.names ∙ made.place) w.fault_line.ensures.line w.as_unkept.ensures)
     ]
