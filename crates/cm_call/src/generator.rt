@@ -60,7 +60,7 @@ pub fn path_of(alloc: Global, instance: usize) -> Result<CapPath, Memory>
 }
 
 /// The children of an instance among so many instances.
-#[tactic(auto, using(crate::proofs::texts::GeneratorLemmas::kids_more))]
+#[tactic(auto, using(crate::proofs::lemmas::texts::Generator::kids_more))]
 fn kids_of(alloc: Global, size: usize, instance: usize) -> Result<List<usize>, Memory>
     requires { instance ≤ 10000 }
     ensures { IfOk result (λ kids. kids ≡ spec.kids_of size instance) }
@@ -245,7 +245,7 @@ fn block_of(alloc: Global, size: usize, instance: usize) -> Result<Block, Memory
 }
 
 /// The manifests of so many instances.
-#[tactic(auto, using(crate::proofs::texts::GeneratorLemmas::made_more))]
+#[tactic(auto, using(crate::proofs::lemmas::texts::Generator::made_more))]
 pub fn blocks_of(alloc: Global, size: usize) -> Result<List<Block>, Memory>
     requires { size ≤ 10000 }
     ensures { IfOk result (λ blocks. blocks ≡ map (spec.block_of size) (range_with_len 0 size)) }

@@ -13,7 +13,7 @@ use cm_world::Target;
 use std::alloc::Global;
 
 /// Where an instance stands, by where its parent does.
-#[tactic(auto, using(crate::proofs::texts::GeneratorLemmas::below_parent))]
+#[tactic(auto, using(crate::proofs::lemmas::texts::Generator::below_parent))]
 fn moniker_below(alloc: Global, parent: &Moniker, instance: usize) -> Result<Moniker, Memory>
     requires some { 0 < instance }
     requires parent { parent.now ≡ spec.moniker_of (spec.parent_of instance) }
@@ -36,7 +36,7 @@ fn moniker_behind(alloc: Global, monikers: &[Moniker], instance: usize) -> Resul
 }
 
 /// The monikers of the first so many instances. `Err` where memory runs out.
-#[tactic(auto, using(crate::proofs::texts::GeneratorLemmas::standing))]
+#[tactic(auto, using(crate::proofs::lemmas::texts::Generator::standing))]
 fn monikers_of(alloc: Global, size: usize) -> Result<List<Moniker>, Memory>
     ensures known { IfOk result (λ monikers. monikers ≡ map spec.moniker_of (range_with_len 0 size)) }
     ensures count { IfOk result (λ monikers. length monikers ≡ size) }
@@ -59,7 +59,7 @@ fn next_of(last: u64) -> u64
 }
 
 /// As many instances as there are, drawn one after the other from the seed on.
-#[tactic(auto, using(crate::proofs::texts::GeneratorLemmas::draws))]
+#[tactic(auto, using(crate::proofs::lemmas::texts::Generator::draws))]
 fn draws_of(alloc: Global, seed: u64, size: usize) -> Result<List<usize>, Memory>
     requires seed { seed < 2 ^ 31 }
     requires some { 0 < size }
@@ -116,7 +116,7 @@ fn asks_of(alloc: Global, monikers: &[Moniker], draws: &[usize]) -> Result<List<
 }
 
 /// The commands go to four lanes in turns.
-#[tactic(auto, using(crate::proofs::texts::GeneratorLemmas::turns_more))]
+#[tactic(auto, using(crate::proofs::lemmas::texts::Generator::turns_more))]
 fn in_turns(alloc: Global, commands: List<Command>) -> Result<List<Line>, Memory>
     requires { length commands ≤ 10000 }
     ensures { IfOk result (λ lines. lines ≡ spec.in_turns 0 commands) }
@@ -135,7 +135,7 @@ fn in_turns(alloc: Global, commands: List<Command>) -> Result<List<Line>, Memory
 }
 
 /// The lines that start each instance.
-#[tactic(auto, using(crate::proofs::texts::GeneratorLemmas::starts_are))]
+#[tactic(auto, using(crate::proofs::lemmas::texts::Generator::starts_are))]
 fn starting(alloc: Global, monikers: &[Moniker]) -> Result<List<Line>, Memory>
     requires known { monikers.now ≡ map spec.moniker_of (range_with_len 0 (length monikers.now)) }
     requires limit { length monikers.now ≤ 10000 }
@@ -147,7 +147,7 @@ fn starting(alloc: Global, monikers: &[Moniker]) -> Result<List<Line>, Memory>
 }
 
 /// The lines that ask as many instances, by draws from the seed on.
-#[tactic(auto, using(crate::proofs::texts::GeneratorLemmas::map_long))]
+#[tactic(auto, using(crate::proofs::lemmas::texts::Generator::map_long))]
 fn asking(alloc: Global, monikers: &[Moniker], seed: u64) -> Result<List<Line>, Memory>
     requires known { monikers.now ≡ map spec.moniker_of (range_with_len 0 (length monikers.now)) }
     requires limit { length monikers.now ≤ 10000 }
@@ -176,7 +176,7 @@ fn phases_of(
 }
 
 /// The script of a workload. `Err` where memory runs out.
-#[tactic(auto, using(crate::proofs::texts::GeneratorLemmas::known_of))]
+#[tactic(auto, using(crate::proofs::lemmas::texts::Generator::known_of))]
 pub fn generated(alloc: Global, workload: Workload) -> Result<Script, Memory>
     requires { IsWorkload workload }
     ensures { IfOk result (λ script. script ≡ spec.script_of workload.seed workload.size) }

@@ -10,7 +10,7 @@ use std::alloc::Global;
 
 /// For each node the nodes that it depends on, directly or through others. The lists together
 /// are as long as the number of pairs that depend on each other, at most its square.
-#[tactic(auto, using(crate::proofs::given::Closing::closure_more))]
+#[tactic(auto, using(crate::proofs::lemmas::given::Closing::closure_more))]
 pub fn closure(alloc: Global, after: &[List<usize>]) -> Result<Vec<List<usize>>, Memory>
     requires below { IsBelow after.now (length after.now) }
     ensures { IfOk result (λ all. IsClosure after.now (length after.now) all.items) }

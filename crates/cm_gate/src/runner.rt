@@ -52,7 +52,7 @@ impl Runner {
     /// Has a program started. `Failed` comes where the runner gave no answer, or none that was asked
     /// for, or wasn't told that its answer was taken. Any other answer is the runner's own to this
     /// very question, and was taken. It is asked once.
-    #[tactic(auto, using(crate::proofs::Asking::asks_launch))]
+    #[tactic(auto, using(crate::proofs::lemmas::Asking::asks_launch))]
     pub(crate) fn launch<N: Network>(&self, net: &mut N, job: &Job) -> Launched
         ensures asks { result ≢ Launched.Failed → AsksLaunch
             N.connected N.Connection.wrote N.Connection.gave net.new self.now job.now result }
@@ -72,7 +72,7 @@ impl Runner {
     }
 
     /// Has a program stopped. `Failed` comes as in `launch`.
-    #[tactic(auto, using(crate::proofs::Asking::asks_halt))]
+    #[tactic(auto, using(crate::proofs::lemmas::Asking::asks_halt))]
     pub(crate) fn halt<N: Network>(&self, net: &mut N, job: &Job) -> Halted
         ensures asks { result ≢ Halted.Failed → AsksHalt
             N.connected N.Connection.wrote N.Connection.gave net.new self.now job.now result }
@@ -92,7 +92,7 @@ impl Runner {
     }
 
     /// Asks over a connection of its own, and reads the answer.
-    #[tactic(auto, using(crate::proofs::Asking::is_answered))]
+    #[tactic(auto, using(crate::proofs::lemmas::Asking::is_answered))]
     fn ask<N: Network>(
         &self,
         net: &mut N,
@@ -129,7 +129,7 @@ fn question(alloc: Global, word: &str, job: &Job) -> Result<Text, Memory>
 }
 
 /// Reads up to a line feed, or until there are as many bytes as an answer may have.
-#[tactic(auto, using(crate::proofs::Asking::gives_none, crate::proofs::Asking::gives_more))]
+#[tactic(auto, using(crate::proofs::lemmas::Asking::gives_none, crate::proofs::lemmas::Asking::gives_more))]
 fn read_answer<C: Connection>(from: &mut C, alloc: Global) -> io::Result<Vec<u8>>
     ensures { IfOk result (λ bytes. Gives C.gave from.old bytes.items from.new) }
 {

@@ -72,7 +72,7 @@ fn hand_over<P: TextKeeper>(keeper: &mut P, held: &mut String) -> Result<(), Kee
     Ok(())
 }
 
-#[tactic(auto, using(crate::proofs::Passing::leaves))]
+#[tactic(auto, using(crate::proofs::lemmas::Passing::leaves))]
 /// Puts the line of an entry after what is held back, and hands that over where it is long enough.
 fn keep_entry<P: TextKeeper>(
     keeper: &mut P,
@@ -153,7 +153,7 @@ fn hand_journal<P: TextKeeper>(
     Ok(())
 }
 
-#[tactic(auto, using(crate::proofs::Passing::held_whole))]
+#[tactic(auto, using(crate::proofs::lemmas::Passing::held_whole))]
 /// Keeps the journal of a realm of this root, above which nothing stood: hands it over in pieces, and has
 /// it put into its place.
 ///

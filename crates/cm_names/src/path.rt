@@ -209,7 +209,7 @@ impl CapPath {
     /// - the one at the least place of `BadByte`, `EmptyPart` and `DotPart`; a bad byte stands at
     ///   itself, a part at its first byte;
     /// - `Memory` where memory runs out.
-    #[tactic(auto, using(crate::proofs::texts::PathLemmas::faultless_path))]
+    #[tactic(auto, using(crate::proofs::lemmas::texts::Path::faultless_path))]
     pub fn read(alloc: Global, text: &str) -> Result<CapPath, PathFault>
         ensures same { IfOk result (λ path. path ≡ text.now) }
         ensures ok { IfOk result (λ _. spec.path_fault text.now ≡ None) }
@@ -225,7 +225,7 @@ impl CapPath {
 
     /// The path that a protocol of this name has by default: `/svc/` and the name. `Err(Memory)`
     /// comes where memory runs out.
-    #[tactic(auto, using(crate::proofs::texts::PathLemmas::service_is_path))]
+    #[tactic(auto, using(crate::proofs::lemmas::texts::Path::service_is_path))]
     pub fn service(alloc: Global, name: &Name) -> Result<CapPath, Memory>
         ensures { IfOk result (λ path. path ≡ spec.service_path name.now) }
     {
@@ -350,7 +350,7 @@ impl SubDir {
     /// - the one at the least place of `BadByte`, `EmptyPart` and `DotPart`; a bad byte stands at
     ///   itself, a part at its first byte;
     /// - `Memory` where memory runs out.
-    #[tactic(auto, using(crate::proofs::texts::PathLemmas::faultless_subdir))]
+    #[tactic(auto, using(crate::proofs::lemmas::texts::Path::faultless_subdir))]
     pub fn read(alloc: Global, text: &str) -> Result<SubDir, PathFault>
         ensures same { IfOk result (λ subdir. subdir ≡ text.now) }
         ensures ok { IfOk result (λ _. spec.subdir_fault text.now ≡ None) }

@@ -88,7 +88,7 @@ fn behind_space(text: &str) -> &str
 }
 
 /// What stands after a mark that is next.
-#[tactic(auto, using(crate::proofs::PlainLemmas::mark_passed))]
+#[tactic(auto, using(crate::proofs::lemmas::Plain::mark_passed))]
 fn behind_mark(text: &str, mark: u8) -> Option<&str>
     requires operates { class mark ≡ operator }
     requires ascii { mark < 128 }
@@ -252,7 +252,7 @@ fn read_members(
 /// The value of a JSON text: where there is none, where it has an escape, a number or a word, or
 /// where memory runs out, nothing. Where there is one, the text reads as its JSON, too: it has marks,
 /// plain strings and spaces alone, and no comma before a closing mark.
-#[tactic(auto, using(crate::proofs::PlainLemmas::text_read))]
+#[tactic(auto, using(crate::proofs::lemmas::Plain::text_read))]
 pub fn read_plain(alloc: Global, text: &str) -> Option<JsonTree<'_>>
     ensures value { IfSome result (λ value. read_text text.now ≡ Some (view value)) }
     ensures json { IfSome result (λ _. ReadsAsJson text.now) }

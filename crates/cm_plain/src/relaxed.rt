@@ -17,7 +17,7 @@ use cm_text::{bare_key, behind_blank};
 use std::alloc::Global;
 
 /// What stands after a space or a comment that is next.
-#[tactic(auto, using(crate::proofs::RelaxedLemmas::passes_space, crate::proofs::RelaxedLemmas::passes_blank))]
+#[tactic(auto, using(crate::proofs::lemmas::Loose::passes_space, crate::proofs::lemmas::Loose::passes_blank))]
 fn behind_one(text: &str) -> Option<&str>
     ensures passed { IfSome result (λ rest. PassesTokens text.now [] rest.now) }
     ensures shorter { IfSome result (λ rest. length rest.now < length text.now) }
@@ -45,7 +45,7 @@ fn behind_gap(text: &str) -> &str
 }
 
 /// What stands after a mark that is next, and after the gap behind it.
-#[tactic(auto, using(crate::proofs::RelaxedLemmas::mark_read))]
+#[tactic(auto, using(crate::proofs::lemmas::Loose::mark_read))]
 fn behind_mark(text: &str, sign: u8) -> Option<&str>
     requires operates { class sign ≡ operator }
     requires ascii { sign < 128 }
@@ -94,7 +94,7 @@ fn read_string(text: &str) -> Option<(&str, &str)>
 }
 
 /// The key that is next, and what stands after it and the gap.
-#[tactic(auto, using(crate::proofs::RelaxedLemmas::string_is_key, crate::proofs::RelaxedLemmas::key_read))]
+#[tactic(auto, using(crate::proofs::lemmas::Loose::string_is_key, crate::proofs::lemmas::Loose::key_read))]
 fn read_key(text: &str) -> Option<(&str, &str)>
     ensures key { IfSome result (λ read. HasKey text.now read.0.now read.1.now) }
     ensures shorter { IfSome result (λ read. length read.1.now < length text.now) }

@@ -42,7 +42,7 @@ fn later<'t, 'a>(
 }
 
 /// The value of the last member with this key.
-#[tactic(auto, using(crate::proofs::TreeLemmas::last_is_found))]
+#[tactic(auto, using(crate::proofs::lemmas::Tree::last_is_found))]
 fn member_named<'t, 'a>(
     members: &'t [(&'a str, JsonTree<'a>)],
     key: &str,

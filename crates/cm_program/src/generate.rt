@@ -39,7 +39,7 @@ fn serve_generated(alloc: Global, workload: Workload) -> Result<LoadedScript, Me
 
 /// Runs the script of a workload, and writes the line that counts its answers and those that were
 /// kept.
-#[tactic(auto, using(crate::proofs::whole::Saying::says, crate::proofs::whole::RunLemmas::idle))]
+#[tactic(auto, using(crate::proofs::lemmas::whole::Saying::says, crate::proofs::lemmas::whole::Run::idle))]
 pub fn run_generated<R: Threads + Wait + Sync, K: Sink, E: Sink, G: Gates + Send + Drop>(
     rt: &R,
     alloc: Global,

@@ -50,7 +50,7 @@ use std::thread::Threads;
 /// - 70 to 76: it is no script, by [`read_script`](cm_command::read_script);
 /// - 77 and 78: a manifest that [`Repository::add`](cm_repo::Repository::add) refuses, for its URL
 ///   and as one that is repeated.
-#[tactic(auto, using(crate::proofs::whole::Saying::says, crate::proofs::whole::RunLemmas::idle))]
+#[tactic(auto, using(crate::proofs::lemmas::whole::Saying::says, crate::proofs::lemmas::whole::Run::idle))]
 pub fn run<
     R: Threads + Wait + Sync,
     S: Source,

@@ -141,7 +141,7 @@ fn print<R: Threads + Wait + Sync, K: Sink>(
 }
 
 /// Says on the error stream what the status is for, where it is out of memory.
-#[tactic(auto, using(crate::proofs::whole::Saying::says))]
+#[tactic(auto, using(crate::proofs::lemmas::whole::Saying::says))]
 fn report<R: Threads + Wait + Sync, E: Sink>(rt: &R, err: &mut E, status: u8)
     ensures { IsScriptRun status → SaysOnErr E.written E.faults err.old err.new status }
 {
@@ -151,7 +151,7 @@ fn report<R: Threads + Wait + Sync, E: Sink>(rt: &R, err: &mut E, status: u8)
 }
 
 /// Writes what was made of a script.
-#[tactic(auto, using(crate::proofs::whole::Saying::says))]
+#[tactic(auto, using(crate::proofs::lemmas::whole::Saying::says))]
 fn print_performed<R: Threads + Wait + Sync, K: Sink, E: Sink, G>(
     rt: &R,
     alloc: Global,
@@ -209,7 +209,7 @@ fn print_performed<R: Threads + Wait + Sync, K: Sink, E: Sink, G>(
 
 /// Runs a script that is served, and writes what is wanted of it. Manifests that it doesn't bring
 /// along are asked of the gates, by their URL and `repo`.
-#[tactic(auto, using(crate::proofs::whole::Saying::says))]
+#[tactic(auto, using(crate::proofs::lemmas::whole::Saying::says))]
 pub fn run_served<R: Threads + Wait + Sync, K: Sink, E: Sink, G: Gates + Send + Drop>(
     rt: &R,
     alloc: Global,

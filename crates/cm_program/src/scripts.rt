@@ -88,7 +88,7 @@ fn read_served<R: Threads + Wait + Sync, S: Source>(
 }
 
 /// Says why the script is refused. The result is the status.
-#[tactic(auto, using(crate::proofs::whole::Saying::says))]
+#[tactic(auto, using(crate::proofs::lemmas::whole::Saying::says))]
 fn refuse<R: Threads + Wait + Sync, E: Sink>(
     rt: &R,
     alloc: Global,
@@ -111,7 +111,7 @@ fn refuse<R: Threads + Wait + Sync, E: Sink>(
 
 /// Runs the script that the source has left, with the manifests of that folder besides its own, and
 /// writes what is wanted of it.
-#[tactic(auto, using(crate::proofs::whole::Saying::says, crate::proofs::whole::RunLemmas::idle))]
+#[tactic(auto, using(crate::proofs::lemmas::whole::Saying::says, crate::proofs::lemmas::whole::Run::idle))]
 pub fn run_script<R: Threads + Wait + Sync, S: Source, K: Sink, E: Sink, G: Gates + Send + Drop>(
     rt: &R,
     alloc: Global,

@@ -20,7 +20,7 @@ use std::thread::Threads;
 
 /// Lets links come at a door, to which none may come yet, and serves each by a session over one new
 /// realm.
-#[tactic(auto, using(crate::proofs::whole::Saying::says, crate::proofs::whole::RunLemmas::idle))]
+#[tactic(auto, using(crate::proofs::lemmas::whole::Saying::says, crate::proofs::lemmas::whole::Run::idle))]
 pub fn run_sessions<R: Threads + Wait + Sync, E: Sink, D: Door + Send, G: Gates + Send + Drop>(
     rt: &R,
     alloc: Global,

@@ -49,7 +49,7 @@ pub fn manager_of(
 }
 
 /// Says why no more links came, where that is a fault. The result is the status.
-#[tactic(auto, using(crate::proofs::whole::Saying::says))]
+#[tactic(auto, using(crate::proofs::lemmas::whole::Saying::says))]
 fn tell_cause<R: Threads + Wait + Sync, E: Sink>(rt: &R, err: &mut E, cause: Cause) -> u8
     ensures status { result ≡ status_of cause }
     ensures err { SaysOnErr E.written E.faults err.old err.new result }
@@ -63,7 +63,7 @@ fn tell_cause<R: Threads + Wait + Sync, E: Sink>(rt: &R, err: &mut E, cause: Cau
 
 /// Serves the links of a door under a manager, closes it, and says why no more came. Peers may come to
 /// the door.
-#[tactic(auto, using(crate::proofs::whole::Saying::says))]
+#[tactic(auto, using(crate::proofs::lemmas::whole::Saying::says))]
 pub fn attend<R: Threads + Wait + Sync, E: Sink, D: Door + Send, G: Gates + Send + Drop>(
     rt: &R,
     alloc: Global,

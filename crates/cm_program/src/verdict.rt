@@ -109,7 +109,7 @@ fn read_verdict<R: Threads + Wait + Sync, S: Source>(
 
 /// Says whether the manifest that the source has left is valid, or the journal a legal history, or else
 /// what comes first in it that isn't. The result is the status.
-#[tactic(auto, using(crate::proofs::whole::Saying::says))]
+#[tactic(auto, using(crate::proofs::lemmas::whole::Saying::says))]
 pub fn run_verdict<R: Threads + Wait + Sync, S: Source, K: Sink, E: Sink>(
     rt: &R,
     alloc: Global,

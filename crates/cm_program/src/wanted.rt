@@ -54,7 +54,7 @@ fn count_shown(said: &[Said]) -> usize
 }
 
 /// The line that counts these answers, with the number of those to uses that were cache hits.
-#[tactic(auto, using(crate::proofs::lanes::Printing::counted))]
+#[tactic(auto, using(crate::proofs::lemmas::lanes::Printing::counted))]
 pub fn summary_text(
     alloc: Global,
     instances: usize,

@@ -26,7 +26,7 @@ fn put_capability(
 }
 
 /// The rows of `capabilities`: what is routed, and the storages.
-#[tactic(auto, using(crate::proofs::RowLemmas::part_more, crate::proofs::RowLemmas::part_all))]
+#[tactic(auto, using(crate::proofs::lemmas::Row::part_more, crate::proofs::lemmas::Row::part_all))]
 fn part_capabilities(
     routed: &mut List<Capability>,
     storages: &mut List<Storage>,
@@ -65,7 +65,7 @@ fn put_use(
 }
 
 /// The rows of `use` by their kinds.
-#[tactic(auto, using(crate::proofs::RowLemmas::part_more, crate::proofs::RowLemmas::part_all))]
+#[tactic(auto, using(crate::proofs::lemmas::Row::part_more, crate::proofs::lemmas::Row::part_all))]
 fn part_uses(
     routed: &mut List<Usage>,
     debug: &mut List<DebugUse>,
@@ -103,7 +103,7 @@ fn put_offer(
 }
 
 /// The rows of `offer`: of what is routed, and of storages.
-#[tactic(auto, using(crate::proofs::RowLemmas::part_more, crate::proofs::RowLemmas::part_all))]
+#[tactic(auto, using(crate::proofs::lemmas::Row::part_more, crate::proofs::lemmas::Row::part_all))]
 fn part_offers(
     routed: &mut List<Offer>,
     storages: &mut List<StorageOffer>,

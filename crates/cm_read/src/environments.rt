@@ -124,7 +124,7 @@ fn in_field(alloc: Global, field: &str, found: ReadFault) -> ReadFault
 }
 
 /// The registrations that a value lists.
-#[tactic(auto, unfolding(crate::specs::Environments::registry_in_at), using(crate::proofs::Inside::fails))]
+#[tactic(auto, unfolding(crate::specs::Environments::registry_in_at), using(crate::proofs::lemmas::In::told))]
 fn registry_in(
     alloc: Global,
     which: Registry,

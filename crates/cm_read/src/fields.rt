@@ -423,7 +423,7 @@ fn least_with<'a>(known: &[&str], least: Option<&'a str>, key: &'a str) -> Optio
 }
 
 /// The first key that isn't known, in byte order.
-#[tactic(auto, using(crate::proofs::reading::Keys::least_is_first))]
+#[tactic(auto, using(crate::proofs::lemmas::reading::Keys::least_is_first))]
 fn unknown_key<'a>(members: &[(&'a str, JsonTree<'a>)], known: &[&str]) -> Option<&'a str>
     ensures { option_map (λ s. s.now) result
         ≡ spec.unknown_in (map_now known.now) (members_view members.now) }

@@ -190,7 +190,7 @@ fn decl_of_value(alloc: Global, value: &Value) -> Result<Decl, ReadFault>
 /// # Errors
 ///
 /// [`ReadFault`] says when each fault comes; `Err(Memory)` where memory runs out.
-#[tactic(auto, using(crate::proofs::reading::DeclRead::is_of_data))]
+#[tactic(auto, using(crate::proofs::lemmas::reading::DeclRead::is_of_data))]
 pub fn read_decl_text(alloc: Global, text: &str) -> Result<Decl, ReadFault>
     ensures decl { GivesReading result (spec.decl_of_json text.now) }
     ensures readable { IfOk result IsReadable }
@@ -211,7 +211,7 @@ pub fn read_decl_text(alloc: Global, text: &str) -> Result<Decl, ReadFault>
 }
 
 /// The text that the bytes of a manifest are, within the limit and in UTF-8.
-#[tactic(auto, using(crate::proofs::TextLemmas::utf8_test, crate::proofs::TextLemmas::utf8_test_false,))]
+#[tactic(auto, using(crate::proofs::lemmas::Text::utf8_test, crate::proofs::lemmas::Text::utf8_test_false,))]
 fn text_of(alloc: Global, bytes: &[u8]) -> Result<&str, ReadFault>
     ensures text { GivesBy (λ s. s.now) result (spec.text_of bytes.now) }
     ensures short { IfOk result (λ s. length s.now < 2 ^ 32) }

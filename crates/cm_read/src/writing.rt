@@ -26,7 +26,7 @@ use std::alloc::Global;
 ///
 /// A readable declaration (`IsReadable`) is read back by [`read_decl_text`](crate::read_decl_text).
 /// `Err(Memory)` where memory runs out.
-#[tactic(auto, using(crate::proofs::back::PairLemmas::text_reads_back))]
+#[tactic(auto, using(crate::proofs::lemmas::back::Pair::text_reads_back))]
 pub fn write_decl(alloc: Global, decl: &Decl) -> Result<Text, Memory>
     ensures text { IfOk result (λ text. text ≡ spec.decl_text decl.now) }
     ensures reads_back { IfOk result

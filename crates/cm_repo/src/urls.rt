@@ -92,7 +92,7 @@ fn prefix_of(text: &str) -> Option<&str>
 
 /// What stands before the fragment of a base, where a fragment is joined to that base by putting it in the
 /// place of the base's own.
-#[tactic(auto, using(crate::proofs::UrlLemmas::plain))]
+#[tactic(auto, using(crate::proofs::lemmas::Url::plain))]
 fn plain_prefix<'a>(base: &'a str, url: &str) -> Option<&'a str>
     ensures { IfSome result (λ prefix. inside.IsPlainPrefix prefix.now base.now url.now) }
 {
@@ -126,7 +126,7 @@ fn joined_to(alloc: Global, base: &str, url: &str) -> Result<Text, UrlFault>
 
 /// The text of a fragment that is joined to a base: mostly the base has no query, and is parsed once, with
 /// this fragment in the place of its own.
-#[tactic(auto, using(crate::proofs::UrlLemmas::by_prefix))]
+#[tactic(auto, using(crate::proofs::lemmas::Url::by_prefix))]
 fn joined(alloc: Global, base: &str, url: &str) -> Result<Text, UrlFault>
     requires { IsTrue (begins_with_hash url.now) }
     ensures { GivesUnless Memory result (joined_to base.now url.now) }

@@ -7,7 +7,7 @@ ghost use Rattle.cm_world.specs.Rows.{is_below, is_gone, is_closed, is_resolved,
 use cm_world::View;
 
 /// Whether the second instance is the first or below it. The choice of the next stop (`cm_order`) asks it.
-#[tactic(auto, using(crate::proofs::ways::Up::no_mark))]
+#[tactic(auto, using(crate::proofs::lemmas::ways::Up::no_mark))]
 pub fn is_below<V: View>(view: &V, top: u64, inc: u64) -> bool
     ensures { result ≡ is_below (V.rows view.now) top inc }
 {

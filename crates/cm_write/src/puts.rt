@@ -302,7 +302,7 @@ pub fn plain_use(
 }
 
 /// Puts `rights` and `subdir` among the members, where they are there.
-#[tactic(auto, using(crate::proofs::PairLemmas::with_pairs_append))]
+#[tactic(auto, using(crate::proofs::lemmas::Pair::with_pairs_append))]
 pub fn put_limits(
     alloc: Global,
     members: &mut Map<String, Value>,

@@ -210,7 +210,7 @@ fn put_environments(
 }
 
 /// Puts `environments` and `program` among the members, where they are there.
-#[tactic(auto, using(crate::proofs::PairLemmas::with_pairs_append))]
+#[tactic(auto, using(crate::proofs::lemmas::Pair::with_pairs_append))]
 fn put_optional(alloc: Global, members: &mut Map<String, Value>, decl: &Decl) -> Result<(), Memory>
     ensures { OnOk result
         (Puts members.old.entries members.new.entries

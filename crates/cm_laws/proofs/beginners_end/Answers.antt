@@ -1,4 +1,4 @@
-use Rattle.cm_laws.proofs.actions.Beginners.{beginners_may_end, others_leave_ends}
+use Rattle.cm_laws.proofs.lemmas.actions.Beginners.{beginners_may_end, others_leave_ends}
 use Rattle.cm_laws.proofs.beginners_end.Goals as goal
 
 pub returns : goal.returns

@@ -1,5 +1,5 @@
-use Rattle.cm_laws.proofs.clients.First.{clients_stop_first}
-use Rattle.cm_laws.proofs.sound.Healthy.{trees_stay_sound}
+use Rattle.cm_laws.proofs.lemmas.clients.First.{clients_stop_first}
+use Rattle.cm_laws.proofs.lemmas.sound.Healthy.{trees_stay_sound}
 use Rattle.cm_laws.proofs.clients_stop_first.Goals as goal
 
 pub returns : goal.returns

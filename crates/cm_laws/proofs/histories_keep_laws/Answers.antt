@@ -1,4 +1,4 @@
-use Rattle.cm_laws.proofs.AllLaws.{histories_keep_laws}
+use Rattle.cm_laws.proofs.lemmas.AllLaws.{histories_keep_laws}
 use Rattle.cm_laws.proofs.histories_keep_laws.Goals as goal
 
 pub returns : goal.returns

@@ -1,4 +1,4 @@
-use Rattle.cm_laws.proofs.lasting.MarksLast.{marks_mark, marks_stay, marked_may_close}
+use Rattle.cm_laws.proofs.lemmas.lasting.MarksLast.{marks_mark, marks_stay, marked_may_close}
 use Rattle.cm_laws.proofs.marks_stay.Goals as goal
 
 pub returns : goal.returns

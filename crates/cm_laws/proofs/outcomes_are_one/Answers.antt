@@ -1,4 +1,4 @@
-use Rattle.cm_laws.proofs.actions.Outcomes.{outcomes_are_one}
+use Rattle.cm_laws.proofs.lemmas.actions.Outcomes.{outcomes_are_one}
 use Rattle.cm_laws.proofs.outcomes_are_one.Goals as goal
 
 pub returns : goal.returns

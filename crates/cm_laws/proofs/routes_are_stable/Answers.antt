@@ -1,4 +1,4 @@
-use Rattle.cm_laws.proofs.lasting.Stable.{routes_are_stable}
+use Rattle.cm_laws.proofs.lemmas.lasting.Stable.{routes_are_stable}
 use Rattle.cm_laws.proofs.routes_are_stable.Goals as goal
 
 pub returns : goal.returns

@@ -1,4 +1,4 @@
-use Rattle.cm_laws.proofs.lasting.MarksLast.{done_is_over, over_stays, over_may_purge}
+use Rattle.cm_laws.proofs.lemmas.lasting.MarksLast.{done_is_over, over_stays, over_may_purge}
 use Rattle.cm_laws.proofs.shutdowns_last.Goals as goal
 
 pub returns : goal.returns

@@ -1,4 +1,4 @@
-use Rattle.cm_laws.proofs.destroyed.Gone.{doomed_are_destroyed, destroyed_stay_gone}
+use Rattle.cm_laws.proofs.lemmas.destroyed.Gone.{doomed_are_destroyed, destroyed_stay_gone}
 use Rattle.cm_laws.proofs.the_destroyed_stay_gone.Goals as goal
 
 pub returns : goal.returns

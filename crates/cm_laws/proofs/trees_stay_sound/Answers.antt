@@ -1,4 +1,4 @@
-use Rattle.cm_laws.proofs.sound.Healthy.{trees_stay_sound}
+use Rattle.cm_laws.proofs.lemmas.sound.Healthy.{trees_stay_sound}
 use Rattle.cm_laws.proofs.trees_stay_sound.Goals as goal
 
 pub returns : goal.returns

@@ -21,7 +21,7 @@ use std::sync::ledger::{Blank, Ledger};
 const LONG_WAY: usize = 16;
 
 /// Which instance stands where the moniker leads from the root.
-#[tactic(auto, using(crate::proofs::read::Leading::found_reply))]
+#[tactic(auto, using(crate::proofs::lemmas::read::Leading::found_reply))]
 pub fn found(alloc: Global, table: &Table, moniker: &Moniker) -> Result<Reply, Memory>
     requires orderly { IsOrderly table.now.rows table.now.next_inc }
     requires root { IsTrue (is_live table.now.rows 0) }
@@ -68,7 +68,7 @@ fn last_parent(table: &Table, moniker: &Moniker) -> Option<u64> {
 
 /// What is said where so many of these names are found, and the next one isn't. No tree has 2^32 - 1
 /// of them one below the other, since it has at most so many rows; that would be out of memory.
-#[tactic(auto, using(crate::proofs::read::Leading::missing_reply))]
+#[tactic(auto, using(crate::proofs::lemmas::read::Leading::missing_reply))]
 fn missing(alloc: Global, table: &Table, parts: &Chain, count: u32) -> Result<Reply, Memory>
     requires { located_from table.now.rows 0 0 parts.now ≡ Located.Missing count }
     ensures { IfOk result (λ reply. reply ≡ found_from table.now.rows 0 [] parts.now) }

@@ -8,8 +8,8 @@ use Rattle.cm_world.specs.declared.row.Row.{Row}
 use Rattle.cm_world.specs.Rows.{row_of, has_parent}
 use Rattle.cm_world.specs.RowsInside.{is_behind, child_behind}
 use Rattle.cm_world.specs.Sound.{IncarnationsIncrease, IsOrderly}
-use Rattle.cm_world.proofs.trees.Finding.{none_some, some_same, row_of-inc, find-passes}
-use Rattle.cm_world.proofs.trees.Walks.{find-lives}
+use Rattle.cm_world.proofs.lemmas.trees.Finding.{none_some, some_same, row_of-inc, find-passes}
+use Rattle.cm_world.proofs.lemmas.trees.Walks.{find-lives}
 use Rattle.cm_trees.specs.Kids.{IsKid}
 use Rattle.cm_trees.proofs.trees.Trees.{eq_some, and_pair}
 
@@ -23,6 +23,7 @@ same_or_later c i low = by (c == i) refl where
 -- ---- the first that is found
 
 module _ (q : Row → Bool) where
+  -- The incarnation found by a test is at most that of each row that passes, if so in the rest.
   least_by : (t : Bool) (next : ℕ) (s r : Row) (ss : List Row) (i : ℕ) (z : Row) → q s ≡ t → IncarnationsIncrease next (s ∷ ss) → (row_of ss i ≡ Some z → find q ss ≡ Some r → r.inc ≤ i) → row_of (s ∷ ss) i ≡ Some z → IsTrue (q z) → cond t (Some s) (find q ss) ≡ Some r → r.inc ≤ i
   least_by t next s r ss i z is increasing more lives passes found = at (s.inc == i) t refl is found where
     at : (b t : Bool) → (s.inc == i) ≡ b → q s ≡ t → cond t (Some s) (find q ss) ≡ Some r → r.inc ≤ i
@@ -43,6 +44,7 @@ module _ (q : Row → Bool) where
   least_found next (s ∷ ss) r i z increasing lives passes found =
       least_by (q s) next s r ss i z refl increasing (λ there later. least_found next ss r i z increasing.1 there passes later) lives passes found
 
+  -- Where a row passes a test, some row is found by it, if so in the rest.
   none_by : (s : Row) (ss : List Row) (i : ℕ) (z : Row) (t : Bool) → q s ≡ t → (row_of ss i ≡ Some z → find q ss ≡ None → ⊥) → row_of (s ∷ ss) i ≡ Some z → IsTrue (q z) → cond t (Some s) (find q ss) ≡ None → ⊥
   none_by s ss i z true is more lives passes none = none_some s (sym none)
   none_by s ss i z false is more lives passes none = at (s.inc == i) refl where
@@ -57,10 +59,12 @@ module _ (q : Row → Bool) where
 
 -- ---- children behind one another
 
+-- A child behind an incarnation passes the test for the next child.
 kid_passes : (rows : List Row) (p : ℕ) (after : Option ℕ) (i : ℕ) (kid : IsKid rows p i) → IsTrue (is_behind after i) → IsTrue (has_parent p kid.row && is_behind after kid.row.inc)
 kid_passes rows p after i kid behind =
     and_pair (has_parent p kid.row) (is_behind after kid.row.inc) (eq_some kid.row.parent p kid.parent) (subst (λ j. IsTrue (is_behind after j)) (sym (row_of-inc rows i kid.row kid.lives)) behind)
 
+-- Where no next child is found, no child stands behind that incarnation.
 none_at : (rows : List Row) (p : ℕ) (after : Option ℕ) (i : ℕ) (o : Option Row) → find (λ r. has_parent p r && is_behind after r.inc) rows ≡ o → option_map (λ r. r.inc) o ≡ None → IsKid rows p i → IsTrue (is_behind after i) → ⊥
 none_at rows p after i None found e kid behind = none_found (λ r. has_parent p r && is_behind after r.inc) rows i kid.row kid.lives (kid_passes rows p after i kid behind) found
 none_at rows p after i (Some r) found e kid behind = none_some r.inc (sym e)
@@ -70,6 +74,7 @@ pub no_kids : (rows : List Row) (p : ℕ) (after : Option ℕ) (i : ℕ) → chi
 no_kids rows p after i none kid behind = none_at rows p after i (find (λ r. has_parent p r && is_behind after r.inc) rows) refl none kid behind
 
 module _ (rows : List Row) (next : ℕ) (orderly : IsOrderly rows next) where
+  -- The next child that is found is a child behind that incarnation.
   found_at : (p : ℕ) (after : Option ℕ) (c : ℕ) (o : Option Row) → find (λ r. has_parent p r && is_behind after r.inc) rows ≡ o → option_map (λ r. r.inc) o ≡ Some c → IsKid rows p c × IsTrue (is_behind after c)
   found_at p after c None found e = absurd (none_some c e)
   found_at p after c (Some r) found e =
@@ -87,6 +92,7 @@ module _ (rows : List Row) (next : ℕ) (orderly : IsOrderly rows next) where
   pub next_kid : (p : ℕ) (after : Option ℕ) (c : ℕ) → child_behind rows p after ≡ Some c → IsKid rows p c × IsTrue (is_behind after c)
   next_kid p after c found = found_at p after c (find (λ r. has_parent p r && is_behind after r.inc) rows) refl found
 
+  -- The next child that is found is the first of the children behind that incarnation.
   least_at : (p : ℕ) (after : Option ℕ) (c i : ℕ) (o : Option Row) → find (λ r. has_parent p r && is_behind after r.inc) rows ≡ o → option_map (λ r. r.inc) o ≡ Some c → IsKid rows p i → IsTrue (is_behind after i) → c ≤ i
   least_at p after c i None found e kid behind = absurd (none_some c e)
   least_at p after c i (Some r) found e kid behind =

@@ -5,11 +5,11 @@ use Rattle.std.specs.Cmp.{unsigned_Decides}
 use Rattle.std.proofs.lemmas.Bool.{or_cases}
 use Rattle.cm_decl.specs.Reach.{DependencyPath, Reaches, NoCycle}
 use Rattle.cm_decl.specs.RealmGraph.{RealmGraph, Strong, IsImplied, Directly}
-use Rattle.cm_decl.proofs.cycles.Reaching.{Reaches-trans}
-use Rattle.cm_decl.proofs.Sameness.{never}
+use Rattle.cm_decl.proofs.lemmas.cycles.Reaching.{Reaches-trans}
+use Rattle.cm_decl.proofs.lemmas.Sameness.{never}
 use Rattle.cm_world.specs.declared.row.Row.{Row}
 use Rattle.cm_world.specs.Rows.{row_of}
-use Rattle.cm_world.proofs.trees.Finding.{none_some, some_same, row_of-inc}
+use Rattle.cm_world.proofs.lemmas.trees.Finding.{none_some, some_same, row_of-inc}
 use Rattle.cm_trees.proofs.trees.Trees.{not_true}
 
 -- ---- implied edges make no cycle
@@ -22,6 +22,7 @@ module _ {N : Type 0} (r : RealmGraph N) where
     pub way : (x ≡ node) ⊎ Reaches (Strong r) x node
     pub implied : IsImplied r node to
 
+  -- A node with a strong edge to one from which an implied edge leads has such an edge ahead, too.
   before : (x z : N) → Strong r x z → IsLeaving z → IsLeaving x
   before x z strong leaving = record {
     node = leaving.node;
@@ -56,6 +57,7 @@ module _ {N : Type 0} (r : RealmGraph N) where
     | inr own ↦ inr own
   ]
 
+  -- What the component reaches doesn't lead to a node that the component doesn't reach.
   meets : (x k : N) → (r.own ≡ x) ⊎ Reaches (Strong r) r.own x → (x ≡ k) ⊎ Reaches (Strong r) x k → k ≢ r.own → (Reaches (Strong r) r.own k → ⊥) → ⊥
   meets x k (inl from) (inl to) child apart = child (sym to ∙ sym from)
   meets x k (inl from) (inr to) child apart = apart (subst (λ v. Reaches (Strong r) v k) (sym from) to)
@@ -74,9 +76,11 @@ module _ {N : Type 0} (r : RealmGraph N) where
 
 -- ---- rows that weren't seen
 
+-- The number of rows that weren't seen yet.
 unseen : List Row → List ℕ → ℕ
 unseen rows seen = length (filter (λ r. not (list_any (λ s. s == r.inc) seen)) rows)
 
+-- No more items pass a test than a weaker one.
 kept_le : (q t : Row → Bool) (xs : List Row) → ((r : Row) → IsTrue (q r) → IsTrue (t r)) → length (filter q xs) ≤ length (filter t xs)
 kept_le q t [] more = omega arith
 kept_le q t (x ∷ xs) more = by (q x) (t x) refl refl (kept_le q t xs more) where
@@ -86,6 +90,7 @@ kept_le q t (x ∷ xs) more = by (q x) (t x) refl refl (kept_le q t xs more) whe
   by false true e f rest = rw (e, f) (omega arith)
   by false false e f rest = rw (e, f) rest
 
+-- Fewer rows pass a test than a weaker one that some living row passes alone.
 kept_less : (q t : Row → Bool) (rows : List Row) (i : ℕ) (r : Row) → ((s : Row) → IsTrue (q s) → IsTrue (t s)) → row_of rows i ≡ Some r → q r ≡ false → IsTrue (t r) → length (filter q rows) < length (filter t rows)
 kept_less q t [] i r more lives out in_it = absurd (none_some r lives)
 kept_less q t (x ∷ xs) i r more lives out in_it = by (x.inc == i) (q x) (t x) refl refl refl (λ later. kept_less q t xs i r more later out in_it) where
@@ -101,6 +106,7 @@ kept_less q t (x ∷ xs) i r more lives out in_it = by (x.inc == i) (q x) (t x) 
   by false false true is e f rest = let fewer : length (filter q xs) < length (filter t xs) = rest (rw is at lives) in rw (e, f) (omega arith)
   by false false false is e f rest = rw (e, f) (rest (rw is at lives))
 
+-- Where not even one of two holds, the second doesn't.
 not_more : (p q : Bool) → IsTrue (not (p || q)) → IsTrue (not q)
 not_more true q h = never h
 not_more false q h = h
@@ -118,16 +124,19 @@ unseen_less rows seen x r lives new =
 -- ---- induction along a graph of rows without cycles
 
 module _ (rows : List Row) (On : ℕ → ℕ → Type 0) (there : (x y : ℕ) → On x y → (r : Row) × (row_of rows y ≡ Some r)) (acyclic : NoCycle On) where
+  -- What is reached from a row, or is it, leads on to what that one leads to.
   reach_more : (s x y : ℕ) → (s ≡ x) ⊎ Reaches On s x → On x y → Reaches On s y
   reach_more s x y (inl same) on = ([], subst (λ v. On v y) (sym same) on)
   reach_more s x y (inr way) on = Reaches-trans On s x y way ([], on)
 
+  -- Each row seen so far, with the present one, leads to what the present one leads to.
   seen_more : (seen : List ℕ) (x y : ℕ) → ((s : ℕ) → IsTrue (list_any (λ i. i == s) seen) → Reaches On s x) → On x y → (s : ℕ) → IsTrue (list_any (λ i. i == s) (x ∷ seen)) → Reaches On s y
   seen_more seen x y reach on s is = elim (or_cases (x == s) (list_any (λ i. i == s) seen) is) [
     | inl same ↦ reach_more s x y (inl (sym ((unsigned_Decides x s).0 same))) on
     | inr old ↦ reach_more s x y (inr (reach s old)) on
   ]
 
+  -- What holds of a row where it holds of all that it leads to holds here, behind the rows seen.
   along : (n : ℕ) (P : ℕ → Type 0) → ((x : ℕ) → ((y : ℕ) → On x y → P y) → P x) → (seen : List ℕ) (x : ℕ) (r : Row) → row_of rows x ≡ Some r → ((s : ℕ) → IsTrue (list_any (λ i. i == s) seen) → Reaches On s x) → unseen rows seen < n → P x
   along zero P step seen x r lives reach low = absurd (omega arith)
   along (suc n) P step seen x r lives reach low =
@@ -159,20 +168,24 @@ search_below (suc n) A decide = elim (search_below n A decide) [
       none i (omega arith) is
 
 module _ (rows : List Row) (next : ℕ) (On : ℕ → ℕ → Type 0) (there : (x y : ℕ) → On x y → (r : Row) × (row_of rows y ≡ Some r)) (within : (y : ℕ) (r : Row) → row_of rows y ≡ Some r → y < next) (acyclic : NoCycle On) (decide : (x y : ℕ) → On x y ⊎ (On x y → ⊥)) where
+  -- A row leads to another, which is a third one or leads to it in the end.
   record GoesTo (x y w : ℕ) : Type 0 where
     pub on : On x w
     pub rest : (w ≡ y) ⊎ Reaches On w y
 
+  -- A way between two rows goes first to some row.
   goes_first : (x y : ℕ) (between : List ℕ) → DependencyPath On x between y → (w : ℕ) × GoesTo x y w
   goes_first x y [] on = (y, record { on = on; rest = inl refl })
   goes_first x y (z ∷ zs) way = (z, record { on = way.0; rest = inr (zs, way.1) })
 
+  -- What goes first to some row, and on from there, is a way.
   goes_reach : (x y w : ℕ) → GoesTo x y w → Reaches On x y
   goes_reach x y w goes = elim goes.rest [
     | inl same ↦ ([], subst (On x) same goes.on)
     | inr way ↦ (w ∷ way.0, (goes.on, way.1))
   ]
 
+  -- It can be told whether a way goes first to some row.
   goes_or_not : (x y w : ℕ) → On x w ⊎ (On x w → ⊥) → (On x w → Reaches On w y ⊎ (Reaches On w y → ⊥)) → GoesTo x y w ⊎ (GoesTo x y w → ⊥)
   goes_or_not x y w (inr off) more = inr (λ goes. off goes.on)
   goes_or_not x y w (inl on) more = elim (more on) [

@@ -7,12 +7,12 @@ use Rattle.std.proofs.lemmas.List.Elements.{filter-append}
 use Rattle.std.proofs.lemmas.List.Sums.{length-filter}
 use Rattle.std.proofs.lemmas.Grind.{flat_map-append}
 use Rattle.std.proofs.lemmas.Bool.{or_cases}
-use Rattle.cm_decl.proofs.Sameness.{never}
+use Rattle.cm_decl.proofs.lemmas.Sameness.{never}
 use Rattle.cm_world.specs.declared.row.Row.{Row}
 use Rattle.cm_world.specs.Rows.{row_of}
 use Rattle.cm_world.specs.Sound.{IncarnationsIncrease}
-use Rattle.cm_world.proofs.trees.Finding.{none_some, some_same, find-passes}
-use Rattle.cm_world.proofs.trees.Walks.{find-lives}
+use Rattle.cm_world.proofs.lemmas.trees.Finding.{none_some, some_same, find-passes}
+use Rattle.cm_world.proofs.lemmas.trees.Walks.{find-lives}
 use Rattle.cm_trees.proofs.trees.Trees.{or_left, or_right}
 
 -- one that passes
@@ -30,6 +30,7 @@ any_flat q f t (x ∷ xs) = by (t x) refl (any_flat q f t xs) where
 
 -- ---- rows
 
+-- Where some item passes a test, one is found by it.
 any_find : {A : Type 0} (q : A → Bool) (xs : List A) → IsTrue (list_any q xs) → (x : A) × (find q xs ≡ Some x)
 any_find q [] h = never h
 any_find q (x ∷ xs) h = by (q x) refl (λ later. any_find q xs later) where
@@ -43,6 +44,7 @@ any_row q rows next increasing h =
     let found : (r : Row) × (find q rows ≡ Some r) = any_find q rows h in
     (found.0, find-lives q rows next found.0 increasing found.1, find-passes q rows found.0 found.1)
 
+-- Where a living row passes a test, some row of the list does.
 pub row_any : (q : Row → Bool) (rows : List Row) (i : ℕ) (r : Row) → row_of rows i ≡ Some r → IsTrue (q r) → IsTrue (list_any q rows)
 row_any q [] i r lives passes = absurd (none_some r lives)
 row_any q (s ∷ ss) i r lives passes = by (s.inc == i) refl (λ later. row_any q ss i r later passes) where
@@ -52,6 +54,7 @@ row_any q (s ∷ ss) i r lives passes = by (s.inc == i) refl (λ later. row_any 
 
 -- ---- counts
 
+-- Where some item passes a test, some are left by it.
 any_kept : {A : Type 0} (q : A → Bool) (xs : List A) → IsTrue (list_any q xs) → 0 < length (filter q xs)
 any_kept q [] h = never h
 any_kept q (x ∷ xs) h = by (q x) refl (λ later. any_kept q xs later) where
@@ -59,6 +62,7 @@ any_kept q (x ∷ xs) h = by (q x) refl (λ later. any_kept q xs later) where
   by true e more = rw e (omega arith)
   by false e more = rw e (more (rw e at h))
 
+-- Where some items are left by a test, some item passes it.
 kept_any : {A : Type 0} (q : A → Bool) (xs : List A) → 0 < length (filter q xs) → IsTrue (list_any q xs)
 kept_any q [] h = absurd (omega arith)
 kept_any q (x ∷ xs) h = by (q x) refl (λ later. kept_any q xs later) where
@@ -66,9 +70,11 @@ kept_any q (x ∷ xs) h = by (q x) refl (λ later. kept_any q xs later) where
   by true e more = or_left (q x) (list_any q xs) e
   by false e more = or_right (q x) (list_any q xs) (more (rw e at h))
 
+-- Where some item of a list passes a test, more than none do.
 pub any_counts : {A : Type 0} (q : A → Bool) (xs : List A) → IsTrue (list_any q xs) → 0 < count_by q xs
 any_counts q xs h = subst (λ n. 0 < n) (length-filter q xs) (any_kept q xs h)
 
+-- Where more than none of a list's items pass a test, some item does.
 pub counts_any : {A : Type 0} (q : A → Bool) (xs : List A) → 0 < count_by q xs → IsTrue (list_any q xs)
 counts_any q xs h = kept_any q xs (subst (λ n. 0 < n) (sym (length-filter q xs)) h)
 
@@ -85,12 +91,14 @@ flat_flat f t g q (x ∷ xs) = by (q x) refl (flat_flat f t g q xs) where
       ∙ ap (λ l. flat_map f (filter t (g x)) ++ l) more)
   by false e more = rw e more
 
+-- A row with a higher incarnation than a first one is found with that one before it too.
 pub row_later : (s : Row) (ss : List Row) (j : ℕ) (t : Row) → row_of ss j ≡ Some t → s.inc < j → row_of (s ∷ ss) j ≡ Some t
 row_later s ss j t lives low = by (s.inc == j) refl where
   by : (b : Bool) → (s.inc == j) ≡ b → row_of (s ∷ ss) j ≡ Some t
   by true e = let same : s.inc ≡ j = (unsigned_Decides s.inc j).0 e in absurd (omega arith)
   by false e = rw e lives
 
+-- Where nothing is made of each row that lives, nothing is made of all rows together.
 others_nothing : {A : Type 0} (G : Row → List A) (rows : List Row) (next : ℕ) → IncarnationsIncrease next rows → ((j : ℕ) (s : Row) → row_of rows j ≡ Some s → G s ≡ []) → flat_map G rows ≡ []
 others_nothing G [] next increasing none = refl
 others_nothing G (s ∷ ss) next increasing none =

@@ -16,13 +16,13 @@ use Rattle.cm_decl.specs.declared.node.Node.{Node}
 use Rattle.cm_decl.specs.declared.node.Node.TheVariants.{Own, Child}
 use Rattle.cm_decl.specs.Same.{same_child, same_node}
 use Rattle.cm_decl.specs.Graph.{is_node, static_name, static_node, dynamic_node, gives_of}
-use Rattle.cm_decl.proofs.Sameness.{never, same_node-refl, same_child_exact, named}
+use Rattle.cm_decl.proofs.lemmas.Sameness.{never, same_node-refl, same_child_exact, named}
 use Rattle.cm_world.specs.declared.row.Row.{Row}
 use Rattle.cm_world.specs.Rows.{row_of, decl_of, has_parent, has_name, child_of}
 use Rattle.cm_world.specs.RowsInside.{is_behind}
 use Rattle.cm_world.specs.Sound.{IsOrderly, IsSound, HasStatic}
-use Rattle.cm_world.proofs.trees.Finding.{none_some, some_same, find-passes}
-use Rattle.cm_world.proofs.trees.Walks.{find-lives}
+use Rattle.cm_world.proofs.lemmas.trees.Finding.{none_some, some_same, find-passes}
+use Rattle.cm_world.proofs.lemmas.trees.Walks.{find-lives}
 use Rattle.cm_trees.specs.Kids.{IsKid}
 use Rattle.cm_trees.specs.Names.{child_node, node_in, in_collection, dynamic_child, dynamic_children}
 use Rattle.cm_trees.proofs.trees.Trees.{kid_higher, eq_some, or_left, or_right, and_pair, not_true, not_flip}
@@ -31,16 +31,20 @@ use Rattle.cm_trees.proofs.names.Listing.{any_some, any_flat, any_row, row_any, 
 
 -- ---- names
 
+-- A child's name is the same as itself.
 pub child_refl : (c : ChildName) → IsTrue (same_child c c)
 child_refl c = same_node-refl (Child c)
 
+-- Where a name that may be missing is the same as this one, it is there, and is this one.
 pub some_name : (o : Option ChildName) (c : ChildName) → IsTrue (option_eq same_child o (Some c)) → o ≡ Some c
 some_name None c h = never h
 some_name (Some b) c h = ap Some (same_child_exact b c h)
 
+-- A name that is there, and is this one, is the same as it.
 pub name_some : (o : Option ChildName) (c : ChildName) → o ≡ Some c → IsTrue (option_eq same_child o (Some c))
 name_some o c e = subst (λ z. IsTrue (option_eq same_child z (Some c))) (sym e) (child_refl c)
 
+-- A child's name in no collection is that of a static child.
 static_same : (c : ChildName) → c.coll ≡ None → c ≡ static_name c.name
 unfolding named
 static_same c e = ap (λ o. named o c.name) e
@@ -64,18 +68,22 @@ pub data IsNamed (rows : List Row) (p : ℕ) : ℕ → Node → Type 0 where
   child : (x : ℕ) (c : ChildName) → IsNamedKid rows p x c → IsNamed rows p x (Child c)
 
 module _ (rows : List Row) (next : ℕ) (orderly : IsOrderly rows next) (p : ℕ) where
+  -- No two child rows of a row that aren't doomed have one name.
   pub kid_once : (x y : ℕ) (c : ChildName) → IsNamedKid rows p x c → IsNamedKid rows p y c → x ≡ y
   kid_once x y c one other =
       orderly.one_name x y one.kid.row other.kid.row one.kid.lives other.kid.lives one.there other.there (one.kid.parent ∙ sym other.kid.parent) (one.name ∙ sym other.name)
 
+  -- A child row that isn't doomed has one name alone.
   pub name_once : (x : ℕ) (b c : ChildName) → IsNamedKid rows p x b → IsNamedKid rows p x c → b ≡ c
   name_once x b c one other =
       let same : one.kid.row ≡ other.kid.row = some_same one.kid.row other.kid.row (sym one.kid.lives ∙ other.kid.lives) in
       some_same b c (sym one.name ∙ ap (λ r. r.name) same ∙ other.name)
 
+  -- No row is a child of itself by a name.
   pub not_itself : (c : ChildName) → IsNamedKid rows p p c → ⊥
   not_itself c kid = let higher : p < p = kid_higher rows next orderly p p kid.kid in let never : ⊥ = absurd (omega arith) in never
 
+  -- Rows that are the same have the same node.
   node_by : (x y : ℕ) (m n : Node) → IsNamed rows p x m → IsNamed rows p y n → x ≡ y → m ≡ n
   node_by _ _ _ _ itself itself e = refl
   node_by _ _ _ _ itself (child y c kid) e = absurd (not_itself c (subst (λ z. IsNamedKid rows p z c) (sym e) kid))
@@ -99,6 +107,7 @@ module _ (rows : List Row) (next : ℕ) (orderly : IsOrderly rows next) (p : ℕ
 
   -- ---- finding by name
 
+  -- A row that is found by parent and name has these, and isn't doomed.
   passes_name : (c : ChildName) (r : Row) → IsTrue (has_parent p r && has_name c r && not r.doomed) → (r.parent ≡ Some p) × (r.name ≡ Some c) × (r.doomed ≡ false)
   passes_name c r h = (
     option_eq_some r.parent p (first_so (has_parent p r) (has_name c r) (first_so (has_parent p r && has_name c r) (not r.doomed) h)),
@@ -106,6 +115,7 @@ module _ (rows : List Row) (next : ℕ) (orderly : IsOrderly rows next) (p : ℕ
     not-true r.doomed (second_so (has_parent p r && has_name c r) (not r.doomed) h),
   )
 
+  -- A living row with this parent and this name that isn't doomed is a child by that name.
   pub kid_of_row : (c : ChildName) (r : Row) → row_of rows r.inc ≡ Some r → r.parent ≡ Some p → r.name ≡ Some c → r.doomed ≡ false → IsNamedKid rows p r.inc c
   kid_of_row c r lives parent name there = record {
     kid = record { row = r; lives = lives; parent = parent };
@@ -113,6 +123,7 @@ module _ (rows : List Row) (next : ℕ) (orderly : IsOrderly rows next) (p : ℕ
     name = name;
   }
 
+  -- What is found by a name under the row is a child of that name that isn't doomed.
   found_by : (c : ChildName) (x : ℕ) (o : Option Row) → find (λ r. has_parent p r && has_name c r && not r.doomed) rows ≡ o → option_map (λ r. r.inc) o ≡ Some x → IsNamedKid rows p x c
   found_by c x None found e = absurd (none_some x e)
   found_by c x (Some r) found e =
@@ -124,6 +135,7 @@ module _ (rows : List Row) (next : ℕ) (orderly : IsOrderly rows next) (p : ℕ
   pub found_kid : (c : ChildName) (x : ℕ) → child_of rows p c ≡ Some x → IsNamedKid rows p x c
   found_kid c x found = found_by c x (find (λ r. has_parent p r && has_name c r && not r.doomed) rows) refl found
 
+  -- A child of a name that isn't doomed is what is found by that name.
   kid_found_by : (c : ChildName) (x : ℕ) (o : Option Row) → IsNamedKid rows p x c → find (λ r. has_parent p r && has_name c r && not r.doomed) rows ≡ o → option_map (λ r. r.inc) o ≡ Some x
   kid_found_by c x None kid found =
       absurd (none_found (λ r. has_parent p r && has_name c r && not r.doomed) rows x kid.kid.row kid.kid.lives
@@ -136,6 +148,7 @@ module _ (rows : List Row) (next : ℕ) (orderly : IsOrderly rows next) (p : ℕ
 
   -- ---- the node that is kept of a row
 
+  -- A child row that isn't doomed has the node of its name.
   child_by : (x : ℕ) (n : Node) (r : Row) (kid : IsKid rows p x) → kid.row ≡ r → (b : Bool) (o : Option ChildName) → r.doomed ≡ b → r.name ≡ o → cond b None (option_map Child o) ≡ Some n → IsNamed rows p x n
   child_by x n r kid same true o doomed name e = absurd (none_some n e)
   child_by x n r kid same false None doomed name e = absurd (none_some n e)
@@ -146,29 +159,35 @@ module _ (rows : List Row) (next : ℕ) (orderly : IsOrderly rows next) (p : ℕ
         name = ap (λ r. r.name) same ∙ name;
       }))
 
+  -- A child of a row isn't that row itself.
   pub kid_not_own : (x : ℕ) → IsKid rows p x → (x == p) ≡ false
   kid_not_own x kid = not_true (x == p) (λ e.
       let same : x ≡ p = (unsigned_Decides x p).0 e in
       let higher : p < x = kid_higher rows next orderly p x kid in
       let never : ⊥ = absurd (omega arith) in never)
 
+  -- The node of a child row is the one that its name and doom tell.
   kid_kept : (x : ℕ) (kid : IsKid rows p x) → node_in rows p x ≡ child_node kid.row
   kid_kept x kid = rw (kid_not_own x kid) (ap (λ o. option_and_then child_node o) kid.lives)
 
+  -- The node of the row itself at its own level is the component.
   own_kept : (x : ℕ) → x ≡ p → node_in rows p x ≡ Some Own
   own_kept x e = rw ((unsigned_Decides x p).1 e) refl
 
+  -- A row or a child of it with a node is the one that this node names.
   pub kept_named : (x : ℕ) (n : Node) → (x ≡ p) ⊎ IsKid rows p x → Some n ≡ node_in rows p x → IsNamed rows p x n
   kept_named x n (inl own) e =
       let same : n ≡ Own = some_same n Own (e ∙ own_kept x own) in
       subst (λ z. IsNamed rows p z n) (sym own) (subst (IsNamed rows p p) (sym same) itself)
   kept_named x n (inr kid) e = child_by x n kid.row kid refl kid.row.doomed kid.row.name refl refl (sym (e ∙ kid_kept x kid))
 
+  -- A child row with a name and without a node is doomed.
   doomed_by : (x : ℕ) (kid : IsKid rows p x) (b : Bool) (o : Option ChildName) → kid.row.doomed ≡ b → kid.row.name ≡ o → IsSome o → None ≡ cond b None (option_map Child o) → IsDoomedKid rows p x
   doomed_by x kid true o doomed name some e = record { kid = kid; doomed = doomed }
   doomed_by x kid false None doomed name some e = never some
   doomed_by x kid false (Some c) doomed name some e = absurd (none_some (Child c) e)
 
+  -- A row or a child of it without a node is a doomed child.
   pub kept_doomed : (x : ℕ) → (x ≡ p) ⊎ IsKid rows p x → None ≡ node_in rows p x → IsDoomedKid rows p x
   kept_doomed x (inl own) e = absurd (none_some Own (e ∙ own_kept x own))
   kept_doomed x (inr kid) e = doomed_by x kid kid.row.doomed kid.row.name refl refl (orderly.parents x p kid.row kid.lives kid.parent).1 (e ∙ kid_kept x kid)
@@ -176,10 +195,12 @@ module _ (rows : List Row) (next : ℕ) (orderly : IsOrderly rows next) (p : ℕ
 -- ---- the names of the declaration and of the rows
 
 module _ (rows : List Row) (next : ℕ) (sound : IsSound rows next) (p : ℕ) (d : Decl) (found : decl_of rows p ≡ Some d) where
+  -- Declared children stand as the declaration has them, where a row that may be there has one.
   decl_by : (o : Option Row) → row_of rows p ≡ o → option_and_then (λ r. r.decl) o ≡ Some d → HasStatic rows p d
   decl_by None lives e = absurd (none_some d e)
   decl_by (Some r) lives e = sound.static p r d lives e
 
+  -- The declared children of the row stand as its declaration has them.
   static : HasStatic rows p d
   static = decl_by (row_of rows p) refl found
 
@@ -209,6 +230,7 @@ module _ (rows : List Row) (next : ℕ) (sound : IsSound rows next) (p : ℕ) (d
 
   -- ---- children of collections
 
+  -- A row that is listed as a dynamic child of a name isn't doomed and has that name.
   listed_by : (c : ChildName) (r : Row) (b : Bool) (o : Option ChildName) → r.doomed ≡ b → r.name ≡ o → IsTrue (list_any (λ (k : DynChild). same_child k.name c) (cond b [] (elim o as (λ _. List DynChild) [ None ↦ [] | Some e ↦ in_collection e r.gives ]))) → (r.doomed ≡ false) × (r.name ≡ Some c)
   listed_by c r true o doomed name h = never h
   listed_by c r false None doomed name h = never h
@@ -217,6 +239,7 @@ module _ (rows : List Row) (next : ℕ) (sound : IsSound rows next) (p : ℕ) (d
     at true h = elim (or_cases (same_child e c) false h) [ inl same ↦ same | inr no_way ↦ never no_way ]
     at false h = never h
 
+  -- A name among the dynamic children is that of a child row that isn't doomed.
   dynamic_row : (c : ChildName) → IsTrue (list_any (λ k. same_child k.name c) (dynamic_children rows p)) → (x : ℕ) × IsNamedKid rows p x c
   dynamic_row c listed =
       let row : (r : Row) × (row_of rows r.inc ≡ Some r) × IsTrue ((has_parent p r && is_behind None r.inc) && list_any (λ k. same_child k.name c) (dynamic_child r)) =
@@ -229,6 +252,7 @@ module _ (rows : List Row) (next : ℕ) (sound : IsSound rows next) (p : ℕ) (d
   listed_as : (r : Row) (c : ChildName) → r.doomed ≡ false → r.name ≡ Some c → dynamic_child r ≡ in_collection c r.gives
   listed_as r c there name = rw there (ap (λ o. elim o as (λ _. List DynChild) [ None ↦ [] | Some e ↦ in_collection e r.gives ]) name)
 
+  -- The name of a child row in a collection, not doomed, is among the dynamic children.
   row_dynamic : (x : ℕ) (c : ChildName) → IsNamedKid rows p x c → IsTrue (is_some c.coll) → IsTrue (list_any (λ k. same_child k.name c) (dynamic_children rows p))
   row_dynamic x c kid inside =
       any_flat (λ k. same_child k.name c) dynamic_child (λ r. has_parent p r && is_behind None r.inc) rows
@@ -241,6 +265,7 @@ module _ (rows : List Row) (next : ℕ) (sound : IsSound rows next) (p : ℕ) (d
 
   -- ---- nodes
 
+  -- A child's name is a node exactly where a declared or a dynamic child has it.
   node_parts : (c : ChildName) → is_node d (dynamic_children rows p) (Child c) ≡ (list_any (λ k. same_child (static_name k.name) c) d.children || list_any (λ k. same_child k.name c) (dynamic_children rows p))
   node_parts c =
       list_any-append (λ y. same_node y (Child c)) (Own ∷ map static_node d.children) (map dynamic_node (dynamic_children rows p))
@@ -265,19 +290,23 @@ module _ (rows : List Row) (next : ℕ) (sound : IsSound rows next) (p : ℕ) (d
 
   -- ---- gives
 
+  -- What was given to a dynamic child by its name is what the child rows of that name were given.
   given_flat : (c : ChildName) → gives_of (dynamic_children rows p) c ≡ flat_map (λ r. cond (has_parent p r && is_behind None r.inc) (flat_map (λ k. k.gives) (filter (λ k. same_child k.name c) (dynamic_child r))) []) rows
   given_flat c = flat_flat (λ k. k.gives) (λ k. same_child k.name c) dynamic_child (λ r. has_parent p r && is_behind None r.inc) rows
 
+  -- A child of another name, or in no collection, was given nothing for this name.
   alone_gives : (e c : ChildName) (gives : List Give) (t : Bool) → is_some e.coll ≡ t → (same_child e c ≡ false) ⊎ (t ≡ false) → flat_map (λ k. k.gives) (filter (λ k. same_child k.name c) (in_collection e gives)) ≡ []
   alone_gives e c gives false e_coll why = rw e_coll refl
   alone_gives e c gives true e_coll (inl other) = rw e_coll (rw other refl)
   alone_gives e c gives true e_coll (inr no_way) = absurd (true≢false no_way)
 
+  -- A row that is doomed or has another name was given nothing for this name.
   others_give : (c : ChildName) (s : Row) (b : Bool) (o : Option ChildName) → s.doomed ≡ b → s.name ≡ o → ((e : ChildName) → s.doomed ≡ false → s.name ≡ Some e → same_child e c ≡ false) → flat_map (λ k. k.gives) (filter (λ k. same_child k.name c) (cond b [] (elim o as (λ _. List DynChild) [ None ↦ [] | Some e ↦ in_collection e s.gives ]))) ≡ []
   others_give c s true o doomed name other = refl
   others_give c s false None doomed name other = refl
   others_give c s false (Some e) doomed name other = alone_gives e c s.gives (is_some e.coll) refl (inl (other e doomed name))
 
+  -- A row other than the named child adds nothing to what was given for that name.
   other_row : (x : ℕ) (c : ChildName) → IsNamedKid rows p x c → (j : ℕ) (s : Row) → row_of rows j ≡ Some s → j ≢ x → cond (has_parent p s && is_behind None s.inc) (flat_map (λ k. k.gives) (filter (λ k. same_child k.name c) (dynamic_child s))) [] ≡ []
   other_row x c kid j s lives apart = by (has_parent p s && is_behind None s.inc) refl where
     by : (t : Bool) → (has_parent p s && is_behind None s.inc) ≡ t → cond t (flat_map (λ k. k.gives) (filter (λ k. same_child k.name c) (dynamic_child s))) [] ≡ []
@@ -287,6 +316,7 @@ module _ (rows : List Row) (next : ℕ) (sound : IsSound rows next) (p : ℕ) (d
         let parent : s.parent ≡ Some p = option_eq_some s.parent p (first_so (has_parent p s) (is_behind None s.inc) e) in
         apart (sound.orderly.one_name j x s kid.kid.row lives kid.kid.lives there kid.there (parent ∙ sym kid.kid.parent) (name ∙ ap Some (same_child_exact b c same) ∙ sym kid.name))))
 
+  -- What is given for a child's name by its own row is what that row was given.
   own_by : (x : ℕ) (c : ChildName) (kid : IsNamedKid rows p x c) (o : Option (List ℕ)) → c.coll ≡ o → flat_map (λ k. k.gives) (filter (λ k. same_child k.name c) (in_collection c kid.kid.row.gives)) ≡ kid.kid.row.gives
   own_by x c kid None e =
       alone_gives c c kid.kid.row.gives false (ap is_some e) (inr refl)
@@ -296,6 +326,7 @@ module _ (rows : List Row) (next : ℕ) (sound : IsSound rows next) (p : ℕ) (d
     append_nothing [] = refl
     append_nothing (h ∷ hs) = ap (λ l. h ∷ l) (append_nothing hs)
 
+  -- The row of a named child adds just what it was given.
   own_row : (x : ℕ) (c : ChildName) (kid : IsNamedKid rows p x c) → cond (has_parent p kid.kid.row && is_behind None kid.kid.row.inc) (flat_map (λ k. k.gives) (filter (λ k. same_child k.name c) (dynamic_child kid.kid.row))) [] ≡ kid.kid.row.gives
   own_row x c kid =
       rw (and_pair (has_parent p kid.kid.row) (is_behind None kid.kid.row.inc) (eq_some kid.kid.row.parent p kid.kid.parent) refl)

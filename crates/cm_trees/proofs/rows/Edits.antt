@@ -7,6 +7,7 @@ use Rattle.std.proofs.lemmas.List.Quantifiers.{position-Some}
 use Rattle.cm_world.specs.Edits.{edit_first}
 
 module _ {A : Type 0} (p : A → Bool) (f : A → A) where
+  -- To change the item at the first place where a test passes is to change the first that passes it.
   pub edit_first-at : (xs : List A) (i : ℕ) (d : A) → i < length xs → p (get_or xs i d) ≡ true → ((k : ℕ) → k < i → p (get_or xs k d) ≡ false) → set xs i (f (get_or xs i d)) ≡ edit_first p f xs
   edit_first-at [] i d lt hit none = absurd (omega arith)
   edit_first-at (x ∷ xs) zero d lt hit none = rw hit refl
@@ -14,6 +15,7 @@ module _ {A : Type 0} (p : A → Bool) (f : A → A) where
       let miss : p x ≡ false = none 0 (zero-lt-suc i) in
       rw miss (ap (λ ys. x ∷ ys) (edit_first-at xs i d (le_of_suc-le-suc lt) hit (λ k less. none (suc k) (suc-le-suc less))))
 
+  -- Where no item passes the test, changing the first one that passes changes nothing.
   edit_first-none : (xs : List A) → All (λ x. p x ≡ false) xs → xs ≡ edit_first p f xs
   edit_first-none [] none = refl
   edit_first-none (x ∷ xs) none =

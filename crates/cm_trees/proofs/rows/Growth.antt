@@ -9,7 +9,7 @@ use Rattle.cm_world.specs.declared.row.Row.{Row}
 use Rattle.cm_world.specs.Rows.{row_of}
 use Rattle.cm_world.specs.End.{child_row, child_rows}
 use Rattle.cm_world.specs.Sound.{IsOrderly, IsParent}
-use Rattle.cm_world.proofs.trees.Finding.{some_same, none_some}
+use Rattle.cm_world.proofs.lemmas.trees.Finding.{some_same, none_some}
 use Rattle.cm_trees.proofs.rows.Rows.{lives_left, lives_pushed, lives_below, increasing_push}
 use Rattle.cm_trees.proofs.rows.Siblings.{IsFresh, AreApart}
 
@@ -27,10 +27,12 @@ pub record Joins (rows : List Row) (next : ℕ) (r : Row) : Type 0 where
   pub unused : (j : ℕ) (s : Row) → row_of rows j ≡ Some s → s.doomed ≡ false → s.parent ≡ r.parent → s.name ≡ r.name → ⊥
   pub number : r.inc ≡ next
 
+-- A row of those with one more that has no parent is the root, with incarnation 0 and no name.
 pushed_root : (rows : List Row) (next i : ℕ) (r s : Row) → IsOrderly rows next → Joins rows next r → (row_of rows i ≡ Some s) ⊎ ((s ≡ r) × (r.inc ≡ i)) → s.parent ≡ None → (i ≡ 0) × (s.name ≡ None)
 pushed_root rows next i r s o n (inl lives) none = o.root i s lives none
 pushed_root rows next i r s o n (inr own) none = absurd (none_some n.parent (sym none ∙ ap (λ z. z.parent) own.0 ∙ n.under))
 
+-- A row of those with one more that has a parent has one that lives, and has a name.
 pushed_parents : (rows : List Row) (next i p : ℕ) (r s : Row) → IsOrderly rows next → Joins rows next r → (row_of rows i ≡ Some s) ⊎ ((s ≡ r) × (r.inc ≡ i)) → s.parent ≡ Some p → IsParent (rows ++ r ∷ []) p i × IsSome s.name
 pushed_parents rows next i p r s o n (inl lives) up =
     let q : IsParent rows p i × IsSome s.name = o.parents i p s lives up in
@@ -42,12 +44,14 @@ pushed_parents rows next i p r s o n (inr own) up =
     let parent : IsParent (rows ++ r ∷ []) n.parent i = record { row = n.row; lives = lives_left rows (r ∷ []) n.parent n.row n.lives; resolved = n.resolved; lower = subst (λ m. n.parent < m) (sym is) low } in
     (subst (λ z. IsParent (rows ++ r ∷ []) z i) same parent, subst (λ (z : Row). IsSome z.name) (sym own.0) n.named)
 
+-- Rows of those with one more that are alike in parent and name, and not doomed, are one.
 pushed_names : (rows : List Row) (next i j : ℕ) (r s t : Row) → IsOrderly rows next → Joins rows next r → (row_of rows i ≡ Some s) ⊎ ((s ≡ r) × (r.inc ≡ i)) → (row_of rows j ≡ Some t) ⊎ ((t ≡ r) × (r.inc ≡ j)) → s.doomed ≡ false → t.doomed ≡ false → s.parent ≡ t.parent → s.name ≡ t.name → i ≡ j
 pushed_names rows next i j r s t o n (inl here) (inl there) ds dt up same = o.one_name i j s t here there ds dt up same
 pushed_names rows next i j r s t o n (inl here) (inr own) ds dt up same = absurd (n.unused i s here ds (up ∙ ap (λ z. z.parent) own.0) (same ∙ ap (λ z. z.name) own.0))
 pushed_names rows next i j r s t o n (inr own) (inl there) ds dt up same = absurd (n.unused j t there dt (sym up ∙ ap (λ z. z.parent) own.0) (sym same ∙ ap (λ z. z.name) own.0))
 pushed_names rows next i j r s t o n (inr own) (inr other) ds dt up same = sym own.1 ∙ other.1
 
+-- A declaration of those rows with one more is valid.
 pushed_valid : (rows : List Row) (next i : ℕ) (r s : Row) (d : Decl) → IsOrderly rows next → Joins rows next r → (row_of rows i ≡ Some s) ⊎ ((s ≡ r) × (r.inc ≡ i)) → s.decl ≡ Some d → IsValid d
 pushed_valid rows next i r s d o n (inl lives) e = o.valid i s d lives e
 pushed_valid rows next i r s d o n (inr own) e = absurd (none_some d (sym n.undeclared ∙ sym (ap (λ z. z.decl) own.0) ∙ e))
@@ -69,9 +73,11 @@ IsUnused : Option ChildName → List Child → Type 0
 IsUnused o [] = Unit {0}
 IsUnused o (k ∷ ks) = (o ≡ Some (static_name k.name) → ⊥) × IsUnused o ks
 
+-- Names of static children that are the same have the same text.
 static_same : (a b : List ℕ) → Some (static_name a) ≡ Some (static_name b) → a ≡ b
 static_same a b e = ap (λ z. z.name) (some_same (static_name a) (static_name b) e)
 
+-- A name that is none of these children's is unused among them.
 fresh_unused : (name : List ℕ) (ks : List Child) → IsFresh name ks → IsUnused (Some (static_name name)) ks
 unfolding IsUnused
 fresh_unused name [] fresh = tt
@@ -81,11 +87,13 @@ fresh_unused name (k ∷ ks) fresh = ((λ e. fresh.0 (static_same name k.name e)
 AreUnused : List Row → ℕ → List Child → Type 0
 AreUnused rows p ks = (j : ℕ) (s : Row) → row_of rows j ≡ Some s → s.parent ≡ Some p → IsUnused s.name ks
 
+-- With a child's row added, the names of the further children are still unused.
 unused_rest : (rows : List Row) (p next : ℕ) (k : Child) (ks : List Child) → AreUnused rows p (k ∷ ks) → IsFresh k.name ks → (j : ℕ) (s : Row) → (row_of rows j ≡ Some s) ⊎ ((s ≡ child_row p next k) × ((child_row p next k).inc ≡ j)) → s.parent ≡ Some p → IsUnused s.name ks
 unfolding IsUnused AreUnused
 unused_rest rows p next k ks unused fresh j s (inl lives) up = (unused j s lives up).1
 unused_rest rows p next k ks unused fresh j s (inr own) up = subst (λ (z : Row). IsUnused z.name ks) (sym own.0) (fresh_unused k.name ks fresh)
 
+-- The row of a child whose name is unused joins the rows, under a resolved parent.
 child_joins : (rows : List Row) (p next : ℕ) (q : Row) (k : Child) (ks : List Child) → row_of rows p ≡ Some q → IsSome q.decl → AreUnused rows p (k ∷ ks) → Joins rows next (child_row p next k)
 unfolding IsUnused AreUnused
 child_joins rows p next q k ks lives resolved unused = record {
@@ -100,6 +108,7 @@ child_joins rows p next q k ks lives resolved unused = record {
   number = refl;
 }
 
+-- Orderly rows stay so with the rows of children whose names are apart and unused.
 orderly_children : (ks : List Child) (rows : List Row) (p next : ℕ) (q : Row) → IsOrderly rows next → row_of rows p ≡ Some q → IsSome q.decl → AreUnused rows p ks → AreApart ks → IsOrderly (rows ++ child_rows p next ks) (next + length ks)
 unfolding AreUnused
 orderly_children [] rows p next q o lives resolved unused apart =

@@ -27,10 +27,12 @@ AreApart (k ∷ ks) = IsFresh k.name ks × AreApart ks
 
 -- ---- a place that is found
 
+-- A place within the rest of a list is within the list, one further on.
 reach_by : (t : Bool) (rest n : ℕ) → rest < n → cond t (1 + rest) 0 < suc n
 reach_by true rest n less = omega arith
 reach_by false rest n less = omega arith
 
+-- The place of the first child that passes is within the list, where some child passes.
 reaches : (passes : Child → Bool) (xs : List Child) (k : Child) (ys : List Child) → passes k ≡ true → position_or_len passes (xs ++ k ∷ ys) < length (xs ++ k ∷ ys)
 reaches passes [] k ys here = rw here (omega arith)
 reaches passes (x ∷ xs) k ys here = reach_by (not (passes x)) (position_or_len passes (xs ++ k ∷ ys)) (length (xs ++ k ∷ ys)) (reaches passes xs k ys here)
@@ -39,15 +41,18 @@ reaches passes (x ∷ xs) k ys here = reach_by (not (passes x)) (position_or_len
 found : (passes : Child → Bool) (xs : List Child) (k : Child) (ys : List Child) → passes k ≡ true → is_some (position passes (xs ++ k ∷ ys)) ≡ true
 found passes xs k ys here = rw (lt-ltb (position_or_len passes (xs ++ k ∷ ys)) (length (xs ++ k ∷ ys)) (reaches passes xs k ys here)) refl
 
+-- Where something is there, so is what is made of it.
 some_mapped : {A B : Type 0} (f : A → B) (o : Option A) → is_some o ≡ true → is_some (option_map f o) ≡ true
 some_mapped f None h = h
 some_mapped f (Some x) h = refl
 
 -- ---- children of one name
 
+-- No child of the list has the name of one before it.
 abbrev IsClashFree : List Child → Type 0
 IsClashFree ks = (i : ℕ) → is_some (first_before Children same_child_name ks i) ≡ true → ⊥
 
+-- Whether a child that may be there clashes with one of those before it.
 clash_by : List Child → Option Child → Bool
 clash_by earlier o = is_some (option_and_then (λ row. first_row Children (λ e. same_child_name e row) earlier) o)
 
@@ -64,6 +69,7 @@ clash_at prefix mid k x xs same =
     subst (λ o. clash_by (take (length before) all) o ≡ true) (sym here)
     (subst (λ ys. clash_by ys (Some x) ≡ true) (sym seam) (some_mapped _ (position (λ e. same_child_name e x) before) (found (λ e. same_child_name e x) prefix k mid named)))
 
+-- Where no names clash, those behind a child don't have its name.
 fresh_behind : (prefix mid : List Child) (k : Child) (ks : List Child) → IsClashFree ((prefix ++ k ∷ mid) ++ ks) → IsFresh k.name ks
 fresh_behind prefix mid k [] free = tt
 fresh_behind prefix mid k (x ∷ xs) free =
@@ -72,12 +78,14 @@ fresh_behind prefix mid k (x ∷ xs) free =
       fresh_behind prefix (mid ++ x ∷ []) k xs (subst IsClashFree moved free),
     )
 
+-- Where no names clash, the children behind some have names that differ.
 apart_behind : (prefix ks : List Child) → IsClashFree (prefix ++ ks) → AreApart ks
 apart_behind prefix [] free = tt
 apart_behind prefix (k ∷ ks) free =
     let moved : prefix ++ k ∷ ks ≡ (prefix ++ k ∷ []) ++ ks = simp append_assoc in
     (fresh_behind prefix [] k ks (subst IsClashFree moved free), apart_behind (prefix ++ k ∷ []) ks (subst IsClashFree moved free))
 
+-- The children of a valid declaration have names that differ.
 pub valid_apart : (d : Decl) → IsValid d → AreApart d.children
 valid_apart d valid =
     apart_behind [] d.children

@@ -10,12 +10,13 @@ use Rattle.cm_world.specs.declared.action.Finish.TheVariants as finish
 use Rattle.cm_world.specs.Rows.{row_of, is_live, decl_of}
 use Rattle.cm_world.specs.End.{changed, rows_by, set_decl, set_pending}
 use Rattle.cm_world.specs.Sound.{IsOrderly}
-use Rattle.cm_world.proofs.trees.Finding.{some_same}
+use Rattle.cm_world.proofs.lemmas.trees.Finding.{some_same}
 use Rattle.cm_trees.proofs.rows.Rows.{Was, was_before, row_of-changed}
 use Rattle.cm_trees.proofs.rows.Orderly.{IsKeeping, kept_parent, orderly_changed}
 use Rattle.cm_trees.proofs.rows.Siblings.{valid_apart}
 use Rattle.cm_trees.proofs.rows.Growth.{orderly_with_children, childless}
 
+-- A row of which no declaration is read has none.
 pub unresolved_row : (o : Option Row) (q : Row) → o ≡ Some q → option_and_then (λ r. r.decl) o ≡ None → q.decl ≡ None
 unresolved_row o q e none = sym (ap (λ z. option_and_then (λ r. r.decl) z) e) ∙ none
 

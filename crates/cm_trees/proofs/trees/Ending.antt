@@ -6,17 +6,17 @@ use Rattle.std.specs.Cmp.{unsigned_Decides, second_so}
 use Rattle.cm_facts.proofs.Booleans.{true_and_false}
 use Rattle.cm_decl.specs.Reach.{DependencyPath, Reaches, NoCycle}
 use Rattle.cm_decl.specs.RealmGraph.{IsImplied, Depends}
-use Rattle.cm_decl.proofs.Sameness.{never}
-use Rattle.cm_decl.proofs.cycles.Reaching.{Reaches-trans}
+use Rattle.cm_decl.proofs.lemmas.Sameness.{never}
+use Rattle.cm_decl.proofs.lemmas.cycles.Reaching.{Reaches-trans}
 use Rattle.cm_world.specs.declared.row.Row.{Row}
 use Rattle.cm_world.specs.Rows.{row_of, has_parent, is_live, is_below, is_closing, is_subtree_shut}
 use Rattle.cm_world.specs.Level.{is_child_row, is_level_node, level_sources, is_from_row, level_edge, level, LevelStrong}
 use Rattle.cm_world.specs.LevelInside.{LevelOn}
 use Rattle.cm_world.specs.Sound.{IsParent, IsSound}
 use Rattle.cm_world.specs.Stopping.{is_wholly_shut, IsFree, outermost, line_up_to, AllFree}
-use Rattle.cm_world.proofs.trees.Finding.{none_some}
-use Rattle.cm_world.proofs.trees.Levels.{node_row}
-use Rattle.cm_world.proofs.trees.Walks.{below_next}
+use Rattle.cm_world.proofs.lemmas.trees.Finding.{none_some}
+use Rattle.cm_world.proofs.lemmas.trees.Levels.{node_row}
+use Rattle.cm_world.proofs.lemmas.trees.Walks.{below_next}
 use Rattle.cm_trees.specs.Kids.{IsKid}
 use Rattle.cm_trees.specs.Laws.{CanStop}
 use Rattle.cm_trees.specs.LawsInside.{HasNoDeadEnd}
@@ -41,6 +41,7 @@ record Binds (rows : List Row) (p x z : ℕ) : Type 0 where
   pub depends : Depends (level rows p) z x
   pub unshut : is_wholly_shut rows p z ≡ false
 
+-- A child of the row at or below which not all is shut.
 record IsUnshutKid (rows : List Row) (c k : ℕ) : Type 0 where
   pub kid : IsKid rows c k
   pub unshut : is_subtree_shut rows k ≡ false
@@ -52,46 +53,57 @@ module _ {N : Type 0} (On : N → N → Type 0) where
   abbrev pub Back : N → N → Type 0
   Back x z = Reaches On z x
 
+  -- A way of edges turned around is a way from its end to its start.
   back_way : (x : N) (xs : List N) (y : N) → DependencyPath Back x xs y → Reaches On y x
   back_way x [] y way = way
   back_way x (z ∷ zs) y way = Reaches-trans On y z x (back_way z zs y way.1) way.0
 
+  -- Edges without a cycle have none when they are turned around.
   back_acyclic : NoCycle On → NoCycle Back
   back_acyclic acyclic (x, way) = acyclic (x, back_way x way.0 x way.1)
 
 module _ (rows : List Row) (next : ℕ) (sound : IsSound rows next) where
   -- ---- what is decided at a level
 
+  -- It can be told whether one node strongly depends on another at a level.
   strong_or_not : (p x y : ℕ) → LevelStrong rows p x y ⊎ (LevelStrong rows p x y → ⊥)
   strong_or_not p x y = by (level_edge rows p x y) where
     by : (b : Bool) → IsTrue b ⊎ (IsTrue b → ⊥)
     by true = inl refl
     by false = inr (λ h. never h)
 
+  -- What is strongly depended on at a level is a node of it.
   edge_end : (p x y : ℕ) → LevelStrong rows p x y → IsTrue (is_level_node rows p y)
   edge_end p x y strong = second_so (list_any (is_from_row rows p y) (level_sources rows p x) && is_level_node rows p x) (is_level_node rows p y) strong
 
+  -- What is strongly depended on at a level is a row that lives.
   strong_there : (p x y : ℕ) → LevelStrong rows p x y → (r : Row) × (row_of rows y ≡ Some r)
   strong_there p x y strong = node_row rows p y (edge_end p x y strong)
 
+  -- The incarnation of a row that lives is below the next one.
   within : (y : ℕ) (r : Row) → row_of rows y ≡ Some r → y < next
   within y r lives = below_next rows next y r sound.orderly.increasing lives
 
+  -- The parent of a child row lives.
   kid_parent : (p x : ℕ) → IsKid rows p x → (r : Row) × (row_of rows p ≡ Some r)
   kid_parent p x kid = let parent : IsParent rows p x = parent_lives rows next sound.orderly p x kid in (parent.row, parent.lives)
 
+  -- A node of a level other than the row itself is its child.
   implied_kid : (p x : ℕ) → IsTrue (is_level_node rows p x) → x ≢ p → IsKid rows p x
   implied_kid p x node child = elim (node_kid rows p x node) [ inl own ↦ absurd (child own) | inr kid ↦ kid ]
 
+  -- What is depended on directly at a level is a row that lives.
   on_there : (p x y : ℕ) → LevelOn rows p x y → (r : Row) × (row_of rows y ≡ Some r)
   on_there p x y (inl strong) = strong_there p x y strong
   on_there p x y (inr implied) =
       let row : (r : Row) × (row_of rows p ≡ Some r) = kid_parent p x (implied_kid p x implied.node implied.child) in
       (row.0, subst (λ i. row_of rows i ≡ Some row.0) (sym implied.own) row.1)
 
+  -- No level has a cycle of direct edges.
   on_acyclic : (p : ℕ) → NoCycle (LevelOn rows p)
   on_acyclic p = direct_acyclic (level rows p) (sound.acyclic p)
 
+  -- It can be told whether a level has an implied edge between two nodes.
   implied_or_not : (p x y : ℕ) → IsImplied (level rows p) x y ⊎ (IsImplied (level rows p) x y → ⊥)
   implied_or_not p x y = by (y == p) (x == p) (is_level_node rows p x) refl refl refl where
     reach : (q : ℕ) → q ≢ p → IsTrue (is_level_node rows p q) → Reaches (LevelStrong rows p) p q ⊎ (Reaches (LevelStrong rows p) p q → ⊥)
@@ -110,6 +122,7 @@ module _ (rows : List Row) (next : ℕ) (sound : IsSound rows next) where
           | inr no_way ↦ inl (record { acyclic = sound.acyclic p; node = node; child = apart; apart = no_way; own = (unsigned_Decides y p).0 own })
         ]
 
+  -- It can be told whether one node depends on another directly at a level.
   on_or_not : (p x y : ℕ) → LevelOn rows p x y ⊎ (LevelOn rows p x y → ⊥)
   on_or_not p x y = elim (strong_or_not p x y) [
     | inl strong ↦ inl (inl strong)
@@ -119,6 +132,7 @@ module _ (rows : List Row) (next : ℕ) (sound : IsSound rows next) where
     ])
   ]
 
+  -- It can be told whether one node depends on another at a level, where the row may be there.
   depends_by : (p x y : ℕ) (o : Option Row) → row_of rows x ≡ o → Depends (level rows p) x y ⊎ (Depends (level rows p) x y → ⊥)
   depends_by p x y (Some r) lives = reach_or_not rows next (LevelOn rows p) (on_there p) within (on_acyclic p) (on_or_not p) y x r lives
   depends_by p x y None none =
@@ -130,6 +144,7 @@ module _ (rows : List Row) (next : ℕ) (sound : IsSound rows next) where
 
   -- ---- one level
 
+  -- It can be told whether a node that isn't wholly shut depends on another at a level.
   binds_or_not : (p x z : ℕ) → (b : Bool) → is_wholly_shut rows p z ≡ b → Binds rows p x z ⊎ (Binds rows p x z → ⊥)
   binds_or_not p x z true shut = inr (λ binds. true≢false (sym shut ∙ binds.unshut))
   binds_or_not p x z false unshut = elim (depends_or_not p z x) [
@@ -137,12 +152,14 @@ module _ (rows : List Row) (next : ℕ) (sound : IsSound rows next) where
     | inr no_way ↦ inr (λ binds. no_way binds.depends)
   ]
 
+  -- Where nothing unshut depends on a node, all that depends on it is wholly shut.
   free_by : (p x z : ℕ) → ((i : ℕ) → i < next → Binds rows p x i → ⊥) → Depends (level rows p) z x → (b : Bool) → is_wholly_shut rows p z ≡ b → IsTrue (is_wholly_shut rows p z)
   free_by p x z none way true shut = shut
   free_by p x z none way false unshut =
       let row : (r : Row) × (row_of rows z ≡ Some r) = node_row rows p z (depends_node rows p z x way) in
       absurd (none z (within z row.0 row.1) (record { depends = way; unshut = unshut }))
 
+  -- A row that is free at its own level is shut, or can be taken next under itself.
   own_by : (c : ℕ) (r : Row) → row_of rows c ≡ Some r → IsFree rows c c → (b : Bool) → r.shut ≡ b → CanUnder rows c ⊎ IsTrue (is_wholly_shut rows c c)
   own_by c r lives free true shut = inr (own_shut rows c ∙ ap (λ o. option_map_or (λ s. s.shut) o false) lives ∙ shut)
   own_by c r lives free false unshut = inl (record {
@@ -154,6 +171,7 @@ module _ (rows : List Row) (next : ℕ) (sound : IsSound rows next) where
     free = subst (AllFree rows c) (sym (path_top rows next sound.orderly c r lives)) (free, tt);
   })
 
+  -- What can be taken next under a free child can be so under its parent.
   kid_can : (c k : ℕ) → IsKid rows c k → IsFree rows c k → CanUnder rows k → CanUnder rows c
   kid_can c k kid free can = record {
     inc = can.inc;
@@ -189,21 +207,25 @@ module _ (rows : List Row) (next : ℕ) (sound : IsSound rows next) where
 
   -- ---- down the tree
 
+  -- It can be told whether an incarnation is a child under which not all is shut.
   kid_or_not : (c k : ℕ) (a b : Bool) → option_map_or (has_parent c) (row_of rows k) false ≡ a → is_subtree_shut rows k ≡ b → IsUnshutKid rows c k ⊎ (IsUnshutKid rows c k → ⊥)
   kid_or_not c k false b parent shut =
       inr (λ is. true_and_false (has_parent c is.kid.row) (eq_some is.kid.row.parent c is.kid.parent) (sym (ap (λ o. option_map_or (has_parent c) o false) is.kid.lives) ∙ parent))
   kid_or_not c k true true parent shut = inr (λ is. true≢false (sym shut ∙ is.unshut))
   kid_or_not c k true false parent shut = inl (record { kid = kid_by rows c k (row_of rows k) refl parent; unshut = shut })
 
+  -- A row that is wholly shut at its own level is shut.
   own_row : (c i : ℕ) (r : Row) → i ≡ c → row_of rows i ≡ Some r → IsTrue (is_wholly_shut rows c c) → IsTrue r.shut
   own_row c i r same lives shut =
       let there : row_of rows c ≡ Some r = subst (λ z. row_of rows z ≡ Some r) same lives in
       sym (ap (λ o. option_map_or (λ s. s.shut) o false) there) ∙ sym (own_shut rows c) ∙ shut
 
+  -- Where all is shut under each child, a row at or below a child is shut.
   kid_row : (c k i : ℕ) (r : Row) → IsKid rows c k → ((j : ℕ) → j < next → IsUnshutKid rows c j → ⊥) → row_of rows i ≡ Some r → IsTrue (is_below rows k i) → (b : Bool) → is_subtree_shut rows k ≡ b → IsTrue r.shut
   kid_row c k i r kid none lives below true shut = shut_each rows next sound.orderly k i r shut lives below
   kid_row c k i r kid none lives below false unshut = absurd (none k (kid_within rows next sound.orderly c k kid) (record { kid = kid; unshut = unshut }))
 
+  -- Where a row is shut and all under each of its children, all at and below it is shut.
   all_kids : (c : ℕ) → IsTrue (is_wholly_shut rows c c) → ((j : ℕ) → j < next → IsUnshutKid rows c j → ⊥) → IsTrue (is_subtree_shut rows c)
   all_kids c own none =
       shut_all rows next sound.orderly c (λ i r lives below. elim (below_kid rows next sound.orderly c i below) [
@@ -211,6 +233,7 @@ module _ (rows : List Row) (next : ℕ) (sound : IsSound rows next) where
         | inr kid ↦ kid_row c kid.0 i r kid.1 none lives kid.2 (is_subtree_shut rows kid.0) refl
       ])
 
+  -- Some row can be taken next, or all is shut, where so of each node of the level.
   level_or_can : (c : ℕ) (r : Row) → row_of rows c ≡ Some r → ((x : ℕ) → IsTrue (is_level_node rows c x) → CanUnder rows c ⊎ IsTrue (is_wholly_shut rows c x)) → CanUnder rows c ⊎ IsTrue (is_subtree_shut rows c)
   level_or_can c r lives nodes = elim (search_below next (IsUnshutKid rows c) (λ k. kid_or_not c k (option_map_or (has_parent c) (row_of rows k) false) (is_subtree_shut rows k) refl refl)) [
     | inl found ↦ (elim (nodes found.0 (kid_node rows c found.0 found.1.kid)) [
@@ -223,6 +246,7 @@ module _ (rows : List Row) (next : ℕ) (sound : IsSound rows next) where
     ])
   ]
 
+  -- Under each row some can be taken next, or all at and below it is shut.
   down : (n c : ℕ) (r : Row) → row_of rows c ≡ Some r → next - c < n → CanUnder rows c ⊎ IsTrue (is_subtree_shut rows c)
   down zero c r lives low = absurd (omega arith)
   down (suc n) c r lives low =
@@ -237,6 +261,7 @@ module _ (rows : List Row) (next : ℕ) (sound : IsSound rows next) where
 
 -- ---- the law
 
+-- In a sound tree a closing row that isn't shut leaves some row that can be stopped.
 law_by : (rows : List Row) (next i : ℕ) (r : Row) → IsSound rows next → row_of rows i ≡ Some r → IsTrue (is_closing rows i) → r.shut ≡ false → (o : Option ℕ) → outermost rows i ≡ o → CanStop rows i
 law_by rows next i r sound lives closing unshut None none = absurd (true≢false (sym closing ∙ no_top rows next sound.orderly i none))
 law_by rows next i r sound lives closing unshut (Some top) all =
@@ -256,5 +281,6 @@ law_by rows next i r sound lives closing unshut (Some top) all =
       | inr shut ↦ true_and_false r.shut (shut_each rows next sound.orderly top i r shut lives is.below) unshut
     ]
 
+-- In a sound tree, as long as a row that is being shut down isn't shut, some such row may stop.
 pub no_dead_end : HasNoDeadEnd
 no_dead_end rows next i r sound lives closing unshut = law_by rows next i r sound lives closing unshut (outermost rows i) refl

@@ -15,9 +15,11 @@ pub record IsPath (rows : List Row) (p c y : ℕ) : Type 0 where
 module _ (rows : List Row) (next : ℕ) (orderly : IsOrderly rows next) where
   -- ---- the line up to a row
 
+  -- A row with a lower incarnation doesn't stand below one with a higher.
   not_below : (top i : ℕ) → i < top → is_below rows top i ≡ false
   not_below top i low = not_true (is_below rows top i) (λ below. let least : top ≤ i = below_least rows next orderly top i below in let no_way : ⊥ = absurd (omega arith) in no_way)
 
+  -- The line from a row up to one with a higher incarnation is empty.
   nothing_above : (top i : ℕ) (r : Row) → row_of rows i ≡ Some r → i < top → line_up_to rows top i ≡ []
   nothing_above top i r lives low = climb rows next orderly (λ i. i < top → line_up_to rows top i ≡ []) step i r lives low where
     step : (i : ℕ) (r : Row) → row_of rows i ≡ Some r → ((p : ℕ) → r.parent ≡ Some p → p < top → line_up_to rows top p ≡ []) → i < top → line_up_to rows top i ≡ []
@@ -44,6 +46,7 @@ module _ (rows : List Row) (next : ℕ) (orderly : IsOrderly rows next) where
 
   -- ---- one level more
 
+  -- From a child itself the levels up to its parent are that child's and one more.
   one_more : (p c : ℕ) → IsKid rows p c → IsPath rows p c c
   one_more p c kid =
       let parent : IsParent rows p c = parent_lives rows next orderly p c kid in
@@ -54,6 +57,7 @@ module _ (rows : List Row) (next : ℕ) (orderly : IsOrderly rows next) where
         less = λ x free. let both : IsFree rows c x × (IsFree rows p c × Unit {0}) = subst (AllFree rows x) up free in (subst (AllFree rows x) (sym own) (both.0, tt), both.1.0);
       }
 
+  -- One row further down, the levels up to a parent are those up to its child, and one more.
   further_up : (p c i q : ℕ) (r : Row) → IsKid rows p c → row_of rows i ≡ Some r → r.parent ≡ Some q → IsTrue (is_below rows c q) → IsPath rows p c q → IsPath rows p c i
   further_up p c i q r kid lives parent below path =
       let long : line_up_to rows p i ≡ i ∷ line_up_to rows p q = path_up p i q r lives parent (below_trans rows next orderly p c q (kid_below rows next orderly p c kid) below) in
@@ -66,6 +70,7 @@ module _ (rows : List Row) (next : ℕ) (orderly : IsOrderly rows next) where
             (subst (AllFree rows x) (sym short) (both.0, rest.0), rest.1);
       }
 
+  -- The levels up to a child, with that above it, are those up to its parent, for each row below it.
   pub path : (p c i : ℕ) → IsKid rows p c → IsTrue (is_below rows c i) → IsPath rows p c i
   path p c i kid below =
       let row : (r : Row) × (row_of rows i ≡ Some r) = below_lives rows next orderly c i below in

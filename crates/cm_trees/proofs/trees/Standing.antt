@@ -5,8 +5,8 @@ use Rattle.std.proofs.lemmas.Bool.{or_left, or_right, or_cases}
 use Rattle.cm_world.specs.declared.row.Row.{Row}
 use Rattle.cm_world.specs.Rows.{row_of, at_or_above, is_below}
 use Rattle.cm_world.specs.Sound.{IncarnationsIncrease, IsOrderly}
-use Rattle.cm_world.proofs.trees.Climbing.{some_above-step, above_root}
-use Rattle.cm_world.proofs.trees.Finding.{row_of-inc, none_some, some_same}
+use Rattle.cm_world.proofs.lemmas.trees.Climbing.{some_above-step, above_root}
+use Rattle.cm_world.proofs.lemmas.trees.Finding.{row_of-inc, none_some, some_same}
 
 -- ---- below
 
@@ -15,6 +15,7 @@ pub nothing_above : (n : ℕ) (p : Row → Bool) (rows : List Row) (i : ℕ) →
 nothing_above zero p rows i none = refl
 nothing_above (suc n) p rows i none = rw (none, at_or_above) refl
 
+-- A row isn't at or below one that doesn't live, where nothing above it is.
 pub nothing_by : (n top i : ℕ) (rows : List Row) (o : Option Row) → row_of rows top ≡ None → row_of rows i ≡ o → ((u : Option ℕ) → at_or_above n (λ r. r.inc == top) rows u ≡ false) → elim o as (λ _. Bool) [ None ↦ false | Some r ↦ (r.inc == top) || at_or_above n (λ s. s.inc == top) rows r.parent ] ≡ false
 nothing_by n top i rows None none e later = refl
 nothing_by n top i rows (Some r) none e later =
@@ -27,6 +28,7 @@ nothing_below zero top rows u none = refl
 nothing_below (suc n) top rows None none = refl
 nothing_below (suc n) top rows (Some i) none = nothing_by n top i rows (row_of rows i) none refl (λ u. nothing_below n top rows u none)
 
+-- A row that stands at or below another lives, where it may be there.
 lives_by : (rows : List Row) (top i : ℕ) (o : Option Row) → row_of rows i ≡ o → IsTrue (is_below rows top i) → (r : Row) × (row_of rows i ≡ Some r)
 lives_by rows top i None e below = absurd (true≢false (sym below ∙ nothing_above (length rows) (λ r. r.inc == top) rows i e))
 lives_by rows top i (Some r) e below = (r, e)
@@ -47,6 +49,7 @@ below_parent rows next top i p r orderly lives parent below =
     some_above-step (λ r. r.inc == top) rows next i r orderly lives
     ∙ or_right (r.inc == top) (at_or_above (length rows) (λ r. r.inc == top) rows r.parent) (ap (at_or_above (length rows) (λ r. r.inc == top) rows) parent ∙ below)
 
+-- Where the row is found at or above a parent, there is that parent, which stands below it.
 above_by : (rows : List Row) (top : ℕ) (o : Option ℕ) → IsTrue (at_or_above (length rows) (λ r. r.inc == top) rows o) → (p : ℕ) × (o ≡ Some p) × IsTrue (is_below rows top p)
 above_by rows top None h = absurd (true≢false (sym h ∙ above_root (length rows) (λ r. r.inc == top) rows))
 above_by rows top (Some p) h = (p, refl, h)
@@ -61,6 +64,7 @@ below_cases rows next top i r orderly lives below =
 
 -- ---- the first row that passes
 
+-- With one row more before others, the first that passes has no higher incarnation than another one.
 pub least_by : (a b : Bool) (q : Row → Bool) (x : Row) (xs : List Row) (next i : ℕ) (r s : Row) → q x ≡ a → (x.inc == i) ≡ b → IncarnationsIncrease next (x ∷ xs) → (find q xs ≡ Some r → row_of xs i ≡ Some s → r.inc ≤ i) → cond a (Some x) (find q xs) ≡ Some r → cond b (Some x) (row_of xs i) ≡ Some s → IsTrue (q s) → r.inc ≤ i
 least_by true true q x xs next i r s here at increasing later found lives passes =
     let own : x.inc ≡ i = (unsigned_Decides x.inc i).0 at in
@@ -80,6 +84,7 @@ find_least q [] next i r s increasing found lives passes = absurd (none_some r f
 find_least q (x ∷ xs) next i r s increasing found lives passes =
     least_by (q x) (x.inc == i) q x xs next i r s refl refl increasing (λ f l. find_least q xs next i r s increasing.1 f l passes) found lives passes
 
+-- Where what is found by one test passes another, some row is found by that, if so in the rest.
 found_by : (a b : Bool) (q : Row → Bool) (x : Row) (o t : Option Row) (s : Row) → q x ≡ a → (t ≡ Some s → (r : Row) × (o ≡ Some r)) → cond b (Some x) t ≡ Some s → IsTrue (q s) → (r : Row) × (cond a (Some x) o ≡ Some r)
 found_by true b q x o t s here later lives passes = (x, refl)
 found_by false true q x o t s here later lives passes =

@@ -1,4 +1,4 @@
-use Rattle.cm_program.proofs.Closed.{is_run}
+use Rattle.cm_program.proofs.lemmas.Closed.{is_run}
 use Rattle.component_manager.proofs.main.Goals as goal
 
 pub ended-status-requires : goal.ended-status-requires

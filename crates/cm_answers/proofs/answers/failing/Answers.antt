@@ -1,6 +1,6 @@
 use Rattle.std.proofs.Common.{Some, sym, ap, ◌∙◌}
 use Rattle.cm_world.specs.declared.action.ActKind.{ActKind}
-use Rattle.cm_answers.proofs.Failures.{cannot, cannot_start, fails_so}
+use Rattle.cm_answers.proofs.lemmas.Failures.{cannot, cannot_start, fails_so}
 use Rattle.cm_answers.proofs.answers.failing.Goals as goal
 
 pub returns-in-Resolve : goal.returns-in-Resolve

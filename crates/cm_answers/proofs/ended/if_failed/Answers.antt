@@ -1,5 +1,5 @@
 use Rattle.std.proofs.Common.{refl}
-use Rattle.cm_answers.proofs.Failures.{failure_by}
+use Rattle.cm_answers.proofs.lemmas.Failures.{failure_by}
 use Rattle.cm_answers.proofs.ended.if_failed.Goals as goal
 
 pub returns-else-went_well : goal.returns-else-went_well

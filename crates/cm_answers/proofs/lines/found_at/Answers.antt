@@ -1,5 +1,5 @@
 use Rattle.std.proofs.Common.{sym, ◌∙◌}
-use Rattle.cm_answers.proofs.LineLemmas.{cut_line, more_line}
+use Rattle.cm_answers.proofs.lemmas.Line.{cut_line, more_line}
 use Rattle.cm_answers.proofs.lines.found_at.Goals as goal
 
 pub returns-in-Some : goal.returns-in-Some

@@ -1,7 +1,7 @@
 use Rattle.std.proofs.Common.{◌≡◌, ◌<◌, ◌+◌, length, subst, sym, arith, rules}
 use Rattle.cm_audit.specs.declared.fault.ReadingStop.{ReadingStop}
 use Rattle.cm_audit.specs.Reading.{IsStop}
-use Rattle.cm_audit.proofs.Places.{at_next, one_more, passes, stops}
+use Rattle.cm_audit.proofs.lemmas.Places.{at_next, one_more, passes, stops}
 use Rattle.cm_audit.proofs.entries.audit_entries.Goals as goal
 
 pub returns-in_default-clause-stop : goal.returns-in_default-clause-stop

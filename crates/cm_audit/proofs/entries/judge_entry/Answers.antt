@@ -3,7 +3,7 @@ use Rattle.cm_world.specs.declared.reply.Entry.{Entry}
 use Rattle.cm_reply.specs.Lists.{TextBytes}
 use Rattle.cm_audit.specs.Expected.{number_text}
 use Rattle.cm_audit.specs.Reading.{IsEntryJudged, StepTaken}
-use Rattle.cm_audit.proofs.Places.{took_reads, next_expected}
+use Rattle.cm_audit.proofs.lemmas.Places.{took_reads, next_expected}
 use Rattle.cm_audit.proofs.entries.judge_entry.Goals as goal
 
 pub returns-then-number-next : goal.returns-then-number-next

@@ -1,7 +1,7 @@
 use Rattle.std.proofs.Common.{true≢false, sym, subst, ◌∙◌, []}
 use Rattle.cm_audit.specs.Journal.{before, head, Reads}
 use Rattle.cm_audit.specs.Reading.{IsStop}
-use Rattle.cm_audit.proofs.Places.{at_next, passes}
+use Rattle.cm_audit.proofs.lemmas.Places.{at_next, passes}
 use Rattle.cm_audit.proofs.head.find_journal.Goals as goal
 
 pub returns-in_default : goal.returns-in_default

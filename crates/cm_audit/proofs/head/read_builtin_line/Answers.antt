@@ -1,6 +1,6 @@
 use Rattle.std.proofs.Common.{sym, true≢false, ◌∙◌}
 use Rattle.std.proofs.lemmas.Slice.Eq.{bytes_eq-Decides}
-use Rattle.cm_audit.proofs.Builtins.{fault_unsaid, legible_by, unsaid, unwritten}
+use Rattle.cm_audit.proofs.lemmas.Builtins.{fault_unsaid, legible_by, unsaid, unwritten}
 use Rattle.cm_audit.proofs.head.read_builtin_line.Goals as goal
 
 pub returns-then-eq : goal.returns-then-eq

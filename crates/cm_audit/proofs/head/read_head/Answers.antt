@@ -2,7 +2,7 @@ use Rattle.std.proofs.Common.{subst, sym, ◌∙◌}
 use Rattle.cm_audit.specs.declared.fault.ReadingStop.{ReadingStop}
 use Rattle.cm_audit.specs.declared.head.HeadLine.{HeadLine}
 use Rattle.cm_audit.specs.Reading.{IsHeadLine, IsStop}
-use Rattle.cm_audit.proofs.Places.{at_next, passes, root_reads, builtin_reads}
+use Rattle.cm_audit.proofs.lemmas.Places.{at_next, passes, root_reads, builtin_reads}
 use Rattle.cm_audit.proofs.head.read_head.Goals as goal
 
 pub returns-in_default : goal.returns-in_default

@@ -1,5 +1,5 @@
 use Rattle.cm_laws.specs.Story.{world_of}
-use Rattle.cm_audit.proofs.Judged.{enabled_by}
+use Rattle.cm_audit.proofs.lemmas.Judged.{enabled_by}
 use Rattle.cm_audit.proofs.judging.is_enabled.Goals as goal
 
 pub returns : goal.returns

@@ -1,4 +1,4 @@
-use Rattle.cm_audit.proofs.Fitting.{incarnations_fit}
+use Rattle.cm_audit.proofs.lemmas.Fitting.{incarnations_fit}
 use Rattle.cm_audit.proofs.laws.incarnations_fit.Goals as goal
 
 pub returns : goal.returns

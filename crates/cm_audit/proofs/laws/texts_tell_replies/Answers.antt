@@ -1,4 +1,4 @@
-use Rattle.cm_audit.proofs.Telling.{texts_tell_replies}
+use Rattle.cm_audit.proofs.lemmas.Telling.{texts_tell_replies}
 use Rattle.cm_audit.proofs.laws.texts_tell_replies.Goals as goal
 
 pub returns : goal.returns

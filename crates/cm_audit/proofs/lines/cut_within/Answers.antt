@@ -1,5 +1,5 @@
 use Rattle.std.proofs.Common.{rules}
-use Rattle.cm_audit.proofs.Places.{cut_made}
+use Rattle.cm_audit.proofs.lemmas.Places.{cut_made}
 use Rattle.cm_audit.proofs.lines.cut_within.Goals as goal
 
 pub returns : goal.returns

@@ -1,4 +1,4 @@
-use Rattle.cm_audit.proofs.Judged.{judged_own_by, no_step_by}
+use Rattle.cm_audit.proofs.lemmas.Judged.{judged_own_by, no_step_by}
 use Rattle.cm_audit.proofs.picks.judge_own_pick.Goals as goal
 
 pub returns-then-not-branch : goal.returns-then-not-branch

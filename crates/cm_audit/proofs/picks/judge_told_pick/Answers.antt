@@ -4,7 +4,7 @@ use Rattle.cm_order.specs.Picking.{MayBePicked}
 use Rattle.cm_steps.specs.Chosen.{PicksThis}
 use Rattle.cm_laws.specs.Story.{Story, world_of}
 use Rattle.cm_audit.specs.Reading.{TellsNoPick}
-use Rattle.cm_audit.proofs.Judged.{judged_this_by, tells_other, unclosing_by}
+use Rattle.cm_audit.proofs.lemmas.Judged.{judged_this_by, tells_other, unclosing_by}
 use Rattle.cm_audit.proofs.picks.judge_told_pick.Goals as goal
 
 pub judge_own_pick-requires : goal.judge_own_pick-requires

@@ -1,5 +1,5 @@
 use Rattle.std.proofs.Common.{sym, ◌∙◌}
-use Rattle.cm_audit.proofs.Rows.{shut_told, stop_told, told_by}
+use Rattle.cm_audit.proofs.lemmas.Rows.{shut_told, stop_told, told_by}
 use Rattle.cm_audit.proofs.picks.row_told.Goals as goal
 
 pub returns-in-Some : goal.returns-in-Some

@@ -1,7 +1,7 @@
 use Rattle.std.proofs.Common.{◌↔◌, IfOk, IsTrue, refl, subst}
 use Rattle.cm_decl.specs.declared.decl.Decl.{Decl}
 use Rattle.cm_decl.specs.Valid.{IsValid}
-use Rattle.cm_audit.proofs.Judged.{brings_by}
+use Rattle.cm_audit.proofs.lemmas.Judged.{brings_by}
 use Rattle.cm_audit.proofs.valid.brings_valid.Goals as goal
 
 pub returns : goal.returns

@@ -1,4 +1,4 @@
-use Rattle.cm_audit.proofs.Judged.{not_faulty}
+use Rattle.cm_audit.proofs.lemmas.Judged.{not_faulty}
 use Rattle.cm_audit.proofs.valid.is_valid.Goals as goal
 
 pub returns-in-Err-Bad : goal.returns-in-Err-Bad

@@ -1,4 +1,4 @@
-use Rattle.cm_cache.proofs.puts.Putting.{right_answers, puts_stay_right, answers_stay_right}
+use Rattle.cm_cache.proofs.lemmas.puts.Putting.{right_answers, puts_stay_right, answers_stay_right}
 use Rattle.cm_cache.proofs.laws.answers_stay_right.Goals as goal
 
 pub returns : goal.returns

@@ -1,4 +1,4 @@
-use Rattle.cm_cache.proofs.puts.Putting.{uses_are_kept, puts_add_uses}
+use Rattle.cm_cache.proofs.lemmas.puts.Putting.{uses_are_kept, puts_add_uses}
 use Rattle.cm_cache.proofs.laws.caches_follow.Goals as goal
 
 pub returns : goal.returns

@@ -1,4 +1,4 @@
-use Rattle.cm_cache.proofs.histories.Dooming.{others_doom_none, marks_doom, exits_doom, ends_doom}
+use Rattle.cm_cache.proofs.lemmas.histories.Dooming.{others_doom_none, marks_doom, exits_doom, ends_doom}
 use Rattle.cm_cache.proofs.laws.entries_that_doom.Goals as goal
 
 pub returns : goal.returns

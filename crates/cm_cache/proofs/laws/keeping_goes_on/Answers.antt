@@ -1,4 +1,4 @@
-use Rattle.cm_cache.proofs.histories.Folding.{keeping_goes_on}
+use Rattle.cm_cache.proofs.lemmas.histories.Folding.{keeping_goes_on}
 use Rattle.cm_cache.proofs.laws.keeping_goes_on.Goals as goal
 
 pub returns : goal.returns

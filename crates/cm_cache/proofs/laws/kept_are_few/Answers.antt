@@ -1,4 +1,4 @@
-use Rattle.cm_cache.proofs.histories.Folding.{kept_are_few}
+use Rattle.cm_cache.proofs.lemmas.histories.Folding.{kept_are_few}
 use Rattle.cm_cache.proofs.laws.kept_are_few.Goals as goal
 
 pub returns : goal.returns

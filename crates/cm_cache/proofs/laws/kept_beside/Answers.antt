@@ -1,4 +1,4 @@
-use Rattle.cm_cache.proofs.histories.Going.{nothing_at_first, beside_is_right, beside_is_number, beside_is_few}
+use Rattle.cm_cache.proofs.lemmas.histories.Going.{nothing_at_first, beside_is_right, beside_is_number, beside_is_few}
 use Rattle.cm_cache.proofs.laws.kept_beside.Goals as goal
 
 pub returns : goal.returns

@@ -1,4 +1,4 @@
-use Rattle.cm_cache.proofs.trees.Reading.{walks_read_bare_rows}
+use Rattle.cm_cache.proofs.lemmas.trees.Reading.{walks_read_bare_rows}
 use Rattle.cm_cache.proofs.laws.walks_read_bare_rows.Goals as goal
 
 pub returns : goal.returns

@@ -1,4 +1,4 @@
-use Rattle.cm_cache.proofs.puts.Putting.{what_is_put_is_kept}
+use Rattle.cm_cache.proofs.lemmas.puts.Putting.{what_is_put_is_kept}
 use Rattle.cm_cache.proofs.laws.what_is_put_is_kept.Goals as goal
 
 pub returns : goal.returns

@@ -1,4 +1,4 @@
-use Rattle.cm_cache.proofs.puts.Placing.{number_put}
+use Rattle.cm_cache.proofs.lemmas.puts.Placing.{number_put}
 use Rattle.cm_cache.proofs.places.number.Goals as goal
 
 pub returns-clause-ok : goal.returns-clause-ok

@@ -3,7 +3,7 @@ use Rattle.std.specs.Option.{option_copied_mut, is_some}
 use Rattle.std.specs.Ordering.{nat_cmp}
 use Rattle.std.specs.BTreeMap.{get}
 use Rattle.std.proofs.lemmas.Result.{on_err_weaker}
-use Rattle.cm_cache.proofs.puts.Placing.{written_back}
+use Rattle.cm_cache.proofs.lemmas.puts.Placing.{written_back}
 use Rattle.cm_cache.proofs.places.put.Goals as goal
 
 pub returns-in-Some-clause-err : goal.returns-in-Some-clause-err

@@ -1,5 +1,5 @@
 use Rattle.std.proofs.Common.{◌≤◌, arith}
-use Rattle.cm_call.proofs.texts.WordLemmas.{number_unread, number_within}
+use Rattle.cm_call.proofs.lemmas.texts.Word.{number_unread, number_within}
 use Rattle.cm_call.proofs.call.number_in.Goals as goal
 
 pub returns-in-Err-clause-gives : goal.returns-in-Err-clause-gives

@@ -3,7 +3,7 @@ use Rattle.clap.specs.Words.{app_of, found_of}
 use Rattle.clap.specs.Walk.{rows_of}
 use Rattle.clap.specs.Simple.{is_simple}
 use Rattle.std.specs.Cmp.{first_so}
-use Rattle.cm_call.proofs.texts.WordLemmas.{rows_ok, rows_err}
+use Rattle.cm_call.proofs.lemmas.texts.Word.{rows_ok, rows_err}
 use Rattle.cm_call.proofs.call.parsed.Goals as goal
 
 pub returns-in-Ok : goal.returns-in-Ok

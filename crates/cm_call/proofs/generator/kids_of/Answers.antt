@@ -1,4 +1,4 @@
-use Rattle.cm_call.proofs.texts.GeneratorLemmas.{kids_more}
+use Rattle.cm_call.proofs.lemmas.texts.Generator.{kids_more}
 use Rattle.cm_call.proofs.generator.kids_of.Goals as goal
 
 pub loop-place-preserved : goal.loop-place-preserved

@@ -1,7 +1,7 @@
 use Rattle.std.proofs.Common.{◌≡◌, ◌<◌, Some, ◌∙◌, length, refl, arith, rules}
 use Rattle.std.specs.List.{slice_get}
 use Rattle.std.proofs.lemmas.Option.{slice_get_read}
-use Rattle.cm_call.proofs.texts.GeneratorLemmas.{asks_use, stands_at}
+use Rattle.cm_call.proofs.lemmas.texts.Generator.{asks_use, stands_at}
 use Rattle.cm_call.proofs.workload.ask_of.Goals as goal
 
 pub returns : goal.returns

@@ -1,6 +1,6 @@
 use Rattle.std.proofs.Common.{◌<◌, ◌≤◌, ◌∙◌, All, List, ℕ, length, sym, ap, subst, arith}
 use Rattle.cm_call.specs.Generated.{drawn}
-use Rattle.cm_call.proofs.texts.GeneratorLemmas.{drawn_all, drawn_low, drawn_long}
+use Rattle.cm_call.proofs.lemmas.texts.Generator.{drawn_all, drawn_low, drawn_long}
 use Rattle.cm_call.proofs.workload.draws_of.Goals as goal
 
 pub returns-clause-within : goal.returns-clause-within

@@ -2,7 +2,7 @@ use Rattle.std.proofs.Common.{◌≡◌, ◌<◌, Some, length, refl, arith}
 use Rattle.std.specs.List.{slice_get}
 use Rattle.std.proofs.lemmas.Option.{slice_get_read}
 use Rattle.cm_call.specs.Generated.{parent_of}
-use Rattle.cm_call.proofs.texts.GeneratorLemmas.{stands_at}
+use Rattle.cm_call.proofs.lemmas.texts.Generator.{stands_at}
 use Rattle.cm_call.proofs.workload.moniker_behind.Goals as goal
 
 pub moniker_below-requires-clause-parent : goal.moniker_below-requires-clause-parent

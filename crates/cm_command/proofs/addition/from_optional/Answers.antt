@@ -1,4 +1,4 @@
-use Rattle.cm_command.proofs.counts.AdditionCounts.{fault_4}
+use Rattle.cm_command.proofs.lemmas.counts.AdditionCounts.{fault_4}
 use Rattle.cm_command.proofs.addition.from_optional.Goals as goal
 
 pub returns-in-Err-from_transitional : goal.returns-in-Err-from_transitional

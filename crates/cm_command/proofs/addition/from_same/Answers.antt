@@ -1,4 +1,4 @@
-use Rattle.cm_command.proofs.counts.AdditionCounts.{same_fault}
+use Rattle.cm_command.proofs.lemmas.counts.AdditionCounts.{same_fault}
 use Rattle.cm_command.proofs.addition.from_same.Goals as goal
 
 pub returns-in-Err-read_literal : goal.returns-in-Err-read_literal

@@ -1,5 +1,5 @@
 use Rattle.std.proofs.Common.{arith}
-use Rattle.cm_command.proofs.counts.AdditionCounts.{fault_2, protocol_reads}
+use Rattle.cm_command.proofs.lemmas.counts.AdditionCounts.{fault_2, protocol_reads}
 use Rattle.cm_command.proofs.addition.from_subdir.Goals as goal
 
 pub returns-in-Protocol : goal.returns-in-Protocol

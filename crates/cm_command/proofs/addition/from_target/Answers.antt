@@ -1,4 +1,4 @@
-use Rattle.cm_command.proofs.counts.AdditionCounts.{fault_0}
+use Rattle.cm_command.proofs.lemmas.counts.AdditionCounts.{fault_0}
 use Rattle.cm_command.proofs.addition.from_target.Goals as goal
 
 pub returns-in-Err-from_rights : goal.returns-in-Err-from_rights

@@ -1,4 +1,4 @@
-use Rattle.cm_command.proofs.counts.AdditionCounts.{transitional_fault}
+use Rattle.cm_command.proofs.lemmas.counts.AdditionCounts.{transitional_fault}
 use Rattle.cm_command.proofs.addition.from_transitional.Goals as goal
 
 pub returns-in-Err-from_same : goal.returns-in-Err-from_same

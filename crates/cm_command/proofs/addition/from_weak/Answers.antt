@@ -1,4 +1,4 @@
-use Rattle.cm_command.proofs.counts.AdditionCounts.{fault_3}
+use Rattle.cm_command.proofs.lemmas.counts.AdditionCounts.{fault_3}
 use Rattle.cm_command.proofs.addition.from_weak.Goals as goal
 
 pub returns-in-Err-from_optional : goal.returns-in-Err-from_optional

@@ -1,5 +1,5 @@
 use Rattle.std.proofs.Common.{arith}
-use Rattle.cm_command.proofs.counts.AdditionCounts.{fault_5}
+use Rattle.cm_command.proofs.lemmas.counts.AdditionCounts.{fault_5}
 use Rattle.cm_command.proofs.addition.read_addition.Goals as goal
 
 pub returns-in-Err : goal.returns-in-Err

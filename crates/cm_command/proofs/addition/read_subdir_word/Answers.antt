@@ -1,6 +1,6 @@
 use Rattle.std.proofs.Common.{codes}
-use Rattle.cm_command.proofs.counts.KindLemmas.{fault_of_rest, fault_no_prefix}
-use Rattle.cm_command.proofs.counts.AdditionCounts.{subdir_behind}
+use Rattle.cm_command.proofs.lemmas.counts.Kind.{fault_of_rest, fault_no_prefix}
+use Rattle.cm_command.proofs.lemmas.counts.AdditionCounts.{subdir_behind}
 use Rattle.cm_command.proofs.addition.read_subdir_word.Goals as goal
 
 pub returns-in_default : goal.returns-in_default

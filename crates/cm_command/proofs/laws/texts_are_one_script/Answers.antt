@@ -1,4 +1,4 @@
-use Rattle.cm_command.proofs.scripts.OneScript.{texts_are_one_script_lem}
+use Rattle.cm_command.proofs.lemmas.scripts.OneScript.{texts_are_one_script_lem}
 use Rattle.cm_command.proofs.laws.texts_are_one_script.Goals as goal
 
 pub returns : goal.returns

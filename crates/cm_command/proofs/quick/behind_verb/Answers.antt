@@ -1,6 +1,6 @@
 use Rattle.cm_command.specs.declared.place.LineState.TheVariants as place
-use Rattle.cm_command.proofs.bytes.Cuts.{piece_and_rest, piece_alone}
-use Rattle.cm_command.proofs.line.QuickWords.{by_last, by_more}
+use Rattle.cm_command.proofs.lemmas.bytes.Cuts.{piece_and_rest, piece_alone}
+use Rattle.cm_command.proofs.lemmas.line.QuickWords.{by_last, by_more}
 use Rattle.cm_command.proofs.quick.behind_verb.Goals as goal
 
 pub returns-in-None : goal.returns-in-None

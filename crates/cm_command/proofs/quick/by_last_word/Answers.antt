@@ -1,5 +1,5 @@
-use Rattle.cm_command.proofs.bytes.Cuts.{piece_alone}
-use Rattle.cm_command.proofs.line.QuickWords.{by_last}
+use Rattle.cm_command.proofs.lemmas.bytes.Cuts.{piece_alone}
+use Rattle.cm_command.proofs.lemmas.line.QuickWords.{by_last}
 use Rattle.cm_command.proofs.quick.by_last_word.Goals as goal
 
 pub returns-in-Ok : goal.returns-in-Ok

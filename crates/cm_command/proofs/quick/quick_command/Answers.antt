@@ -1,5 +1,5 @@
-use Rattle.cm_command.proofs.bytes.Cuts.{piece_and_rest}
-use Rattle.cm_command.proofs.line.QuickWords.{by_verb}
+use Rattle.cm_command.proofs.lemmas.bytes.Cuts.{piece_and_rest}
+use Rattle.cm_command.proofs.lemmas.line.QuickWords.{by_verb}
 use Rattle.cm_command.proofs.quick.quick_command.Goals as goal
 
 pub returns-in-Some-verb_of : goal.returns-in-Some-verb_of

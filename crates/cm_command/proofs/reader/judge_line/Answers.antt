@@ -1,5 +1,5 @@
 use Rattle.std.proofs.Common.{◌∙◌}
-use Rattle.cm_command.proofs.line.LineWords.{commands, read, short, no_builtin, command_faulty}
+use Rattle.cm_command.proofs.lemmas.line.LineWords.{commands, read, short, no_builtin, command_faulty}
 use Rattle.cm_command.proofs.reader.judge_line.Goals as goal
 
 pub unreachable-requires : goal.unreachable-requires

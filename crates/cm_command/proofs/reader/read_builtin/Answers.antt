@@ -1,5 +1,5 @@
 use Rattle.std.proofs.Common.{◌∙◌}
-use Rattle.cm_command.proofs.line.LineWords.{builtins, read, short, no_command, builtin_faulty}
+use Rattle.cm_command.proofs.lemmas.line.LineWords.{builtins, read, short, no_command, builtin_faulty}
 use Rattle.cm_command.proofs.reader.read_builtin.Goals as goal
 
 pub unreachable-requires : goal.unreachable-requires

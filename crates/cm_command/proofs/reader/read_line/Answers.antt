@@ -1,6 +1,6 @@
 use Rattle.std.proofs.Common.{arith}
-use Rattle.cm_command.proofs.bytes.Cuts.{begins_with_piece, piece_and_rest, piece_alone}
-use Rattle.cm_command.proofs.line.LineWords.{at_start, further, room, fits, faulty, ended}
+use Rattle.cm_command.proofs.lemmas.bytes.Cuts.{begins_with_piece, piece_and_rest, piece_alone}
+use Rattle.cm_command.proofs.lemmas.line.LineWords.{at_start, further, room, fits, faulty, ended}
 use Rattle.cm_command.proofs.reader.read_line.Goals as goal
 
 pub words-init : goal.words-init

@@ -1,5 +1,5 @@
 use Rattle.std.proofs.Common.{length}
-use Rattle.cm_command.proofs.line.LineWords.{IsUnderWay}
+use Rattle.cm_command.proofs.lemmas.line.LineWords.{IsUnderWay}
 use Rattle.cm_command.proofs.reader.read_line.Given as goal
 
 -- what the rest says from here is what the line says

@@ -1,4 +1,4 @@
-use Rattle.cm_command.proofs.line.LineGrammar.{reads_one_way_lem}
+use Rattle.cm_command.proofs.lemmas.line.LineGrammar.{reads_one_way_lem}
 use Rattle.cm_command.proofs.reader.reads_one_way.Goals as goal
 
 pub returns : goal.returns

@@ -3,8 +3,8 @@ use Rattle.cm_names.specs.Rights.{rights_of}
 use Rattle.cm_names.specs.RightsInside.{rights_if_faultless}
 use Rattle.cm_command.specs.Counts.{IsWordFault}
 use Rattle.cm_command.specs.WordsInside.{IsUnused}
-use Rattle.cm_command.proofs.counts.RightCounts.{IsOnward, begins, further, stuck, ended, never_faulty}
-use Rattle.cm_command.proofs.bytes.Cuts.{begins_with_piece, piece_and_rest, piece_alone}
+use Rattle.cm_command.proofs.lemmas.counts.RightCounts.{IsOnward, begins, further, stuck, ended, never_faulty}
+use Rattle.cm_command.proofs.lemmas.bytes.Cuts.{begins_with_piece, piece_and_rest, piece_alone}
 use Rattle.cm_command.proofs.rights.read_rights.Goals as goal
 
 pub pieces-init : goal.pieces-init

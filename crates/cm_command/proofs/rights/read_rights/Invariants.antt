@@ -1,5 +1,5 @@
 use Rattle.std.proofs.Common.{length}
-use Rattle.cm_command.proofs.counts.RightCounts.{IsOnward}
+use Rattle.cm_command.proofs.lemmas.counts.RightCounts.{IsOnward}
 use Rattle.cm_command.proofs.rights.read_rights.Given as goal
 
 -- what the rest says from here is what the whole says

@@ -1,5 +1,5 @@
 use Rattle.std.proofs.Common.{refl, sym, true≢false}
-use Rattle.cm_command.proofs.counts.RightCounts.{array_is, array_not, within}
+use Rattle.cm_command.proofs.lemmas.counts.RightCounts.{array_is, array_not, within}
 use Rattle.cm_command.proofs.rights.right_word.Goals as goal
 
 pub returns-then-is_same : goal.returns-then-is_same

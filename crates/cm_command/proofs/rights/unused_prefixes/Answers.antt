@@ -1,5 +1,5 @@
 use Rattle.std.proofs.Common.{rules, sym, ◌∙◌}
-use Rattle.cm_command.proofs.counts.RightCounts.{array_used, array_more, array_whole, within, through}
+use Rattle.cm_command.proofs.lemmas.counts.RightCounts.{array_used, array_more, array_whole, within, through}
 use Rattle.cm_command.proofs.rights.unused_prefixes.Goals as goal
 
 pub loop-word-preserved-then-is_used : goal.loop-word-preserved-then-is_used

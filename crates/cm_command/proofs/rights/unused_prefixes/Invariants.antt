@@ -1,7 +1,7 @@
 use Rattle.std.proofs.Common.{◌≡◌, take, map}
 use Rattle.cm_command.specs.Counts.{CountsPrefixes}
 use Rattle.cm_command.specs.WordsInside.{right_words}
-use Rattle.cm_command.proofs.counts.RightCounts.{IsLeft}
+use Rattle.cm_command.proofs.lemmas.counts.RightCounts.{IsLeft}
 use Rattle.cm_command.proofs.rights.unused_prefixes.Given as goal
 
 -- the count of the unused words so far

@@ -1,5 +1,5 @@
 use Rattle.std.proofs.Common.{rules}
-use Rattle.cm_command.proofs.bytes.Pieces.{cut_lines, cut_last}
+use Rattle.cm_command.proofs.lemmas.bytes.Pieces.{cut_lines, cut_last}
 use Rattle.cm_command.proofs.script_reader.cut_line.Goals as goal
 
 pub returns-in-Some-clause-lines : goal.returns-in-Some-clause-lines

@@ -1,5 +1,5 @@
 use Rattle.std.proofs.Common.{rules}
-use Rattle.cm_command.proofs.scripts.LaneLemmas.{no_space_no_lane, no_decimal_no_lane, starts}
+use Rattle.cm_command.proofs.lemmas.scripts.Lane.{no_space_no_lane, no_decimal_no_lane, starts}
 use Rattle.cm_command.proofs.script_reader.lane_start.Goals as goal
 
 pub returns-in_default : goal.returns-in_default

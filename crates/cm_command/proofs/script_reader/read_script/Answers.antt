@@ -1,5 +1,5 @@
 use Rattle.std.proofs.Common.{refl}
-use Rattle.cm_command.proofs.scripts.Lines.{ended_ok, ended_fault}
+use Rattle.cm_command.proofs.lemmas.scripts.Lines.{ended_ok, ended_fault}
 use Rattle.cm_command.proofs.script_reader.read_script.Goals as goal
 
 pub returns-clause-ok : goal.returns-clause-ok

@@ -1,5 +1,5 @@
 use Rattle.std.proofs.Common.{refl, ◌-◌}
-use Rattle.cm_command.proofs.counts.CountLemmas.{some_prefix, longest, url_begins}
+use Rattle.cm_command.proofs.lemmas.counts.Count.{some_prefix, longest, url_begins}
 use Rattle.cm_command.proofs.script_reader.read_url_at.Goals as goal
 
 pub overflow_sub-at : goal.overflow_sub-at

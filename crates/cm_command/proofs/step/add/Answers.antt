@@ -1,6 +1,6 @@
 use Rattle.std.proofs.Common.{subst}
 use Rattle.cm_command.specs.Additions.{IsAddition}
-use Rattle.cm_command.proofs.line.StepLemmas.{target_adds, rights_add, subdir_adds, weak_adds, optional_adds, transitional_adds, same_adds}
+use Rattle.cm_command.proofs.lemmas.line.Step.{target_adds, rights_add, subdir_adds, weak_adds, optional_adds, transitional_adds, same_adds}
 use Rattle.cm_command.proofs.step.add.Goals as goal
 
 pub returns-in-Target : goal.returns-in-Target

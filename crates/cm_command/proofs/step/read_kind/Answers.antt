@@ -1,5 +1,5 @@
 use Rattle.std.proofs.Common.{rules}
-use Rattle.cm_command.proofs.line.StepLemmas.{kind_counts, no_kind}
+use Rattle.cm_command.proofs.lemmas.line.Step.{kind_counts, no_kind}
 use Rattle.cm_command.proofs.step.read_kind.Goals as goal
 
 pub returns : goal.returns

@@ -1,4 +1,4 @@
-use Rattle.cm_command.proofs.line.StepLemmas.{addition_fault}
+use Rattle.cm_command.proofs.lemmas.line.Step.{addition_fault}
 use Rattle.cm_command.proofs.step.take_addition.Goals as goal
 
 pub returns-in-Err : goal.returns-in-Err

@@ -1,4 +1,4 @@
-use Rattle.cm_command.proofs.line.StepLemmas.{builtin_kind_fault}
+use Rattle.cm_command.proofs.lemmas.line.Step.{builtin_kind_fault}
 use Rattle.cm_command.proofs.step.take_builtin_kind.Goals as goal
 
 pub returns-in-Err : goal.returns-in-Err

@@ -1,4 +1,4 @@
-use Rattle.cm_command.proofs.line.StepLemmas.{builtin_name_fault}
+use Rattle.cm_command.proofs.lemmas.line.Step.{builtin_name_fault}
 use Rattle.cm_command.proofs.step.take_builtin_name.Goals as goal
 
 pub returns-in-Err : goal.returns-in-Err

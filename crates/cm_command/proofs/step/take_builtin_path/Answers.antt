@@ -1,4 +1,4 @@
-use Rattle.cm_command.proofs.line.StepLemmas.{builtin_path_fault}
+use Rattle.cm_command.proofs.lemmas.line.Step.{builtin_path_fault}
 use Rattle.cm_command.proofs.step.take_builtin_path.Goals as goal
 
 pub returns-in-Err : goal.returns-in-Err

@@ -1,4 +1,4 @@
-use Rattle.cm_command.proofs.line.StepLemmas.{child_fault}
+use Rattle.cm_command.proofs.lemmas.line.Step.{child_fault}
 use Rattle.cm_command.proofs.step.take_child.Goals as goal
 
 pub returns-in-Err : goal.returns-in-Err

@@ -1,4 +1,4 @@
-use Rattle.cm_command.proofs.line.StepLemmas.{collection_fault}
+use Rattle.cm_command.proofs.lemmas.line.Step.{collection_fault}
 use Rattle.cm_command.proofs.step.take_collection.Goals as goal
 
 pub returns-in-Err : goal.returns-in-Err

@@ -1,4 +1,4 @@
-use Rattle.cm_command.proofs.line.StepLemmas.{from_fault}
+use Rattle.cm_command.proofs.lemmas.line.Step.{from_fault}
 use Rattle.cm_command.proofs.step.take_from.Goals as goal
 
 pub returns-in-Err : goal.returns-in-Err

@@ -1,5 +1,5 @@
 use Rattle.std.proofs.Common.{rules}
-use Rattle.cm_command.proofs.line.StepLemmas.{group_fault}
+use Rattle.cm_command.proofs.lemmas.line.Step.{group_fault}
 use Rattle.cm_command.proofs.step.take_group.Goals as goal
 
 pub returns-else-is_same : goal.returns-else-is_same

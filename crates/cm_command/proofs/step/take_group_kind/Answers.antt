@@ -1,4 +1,4 @@
-use Rattle.cm_command.proofs.line.StepLemmas.{group_kind_fault}
+use Rattle.cm_command.proofs.lemmas.line.Step.{group_kind_fault}
 use Rattle.cm_command.proofs.step.take_group_kind.Goals as goal
 
 pub returns-in-Err : goal.returns-in-Err

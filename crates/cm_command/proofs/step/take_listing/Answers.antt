@@ -1,4 +1,4 @@
-use Rattle.cm_command.proofs.line.StepLemmas.{listing_fault}
+use Rattle.cm_command.proofs.lemmas.line.Step.{listing_fault}
 use Rattle.cm_command.proofs.step.take_listing.Goals as goal
 
 pub returns-in-Err : goal.returns-in-Err

@@ -1,4 +1,4 @@
-use Rattle.cm_command.proofs.line.StepLemmas.{opening_fault}
+use Rattle.cm_command.proofs.lemmas.line.Step.{opening_fault}
 use Rattle.cm_command.proofs.step.take_opening.Goals as goal
 
 pub returns-in-Err : goal.returns-in-Err

@@ -1,4 +1,4 @@
-use Rattle.cm_command.proofs.line.StepLemmas.{opening_exposed_fault}
+use Rattle.cm_command.proofs.lemmas.line.Step.{opening_exposed_fault}
 use Rattle.cm_command.proofs.step.take_opening_exposed.Goals as goal
 
 pub returns-in-Err : goal.returns-in-Err

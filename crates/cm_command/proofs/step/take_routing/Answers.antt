@@ -1,4 +1,4 @@
-use Rattle.cm_command.proofs.line.StepLemmas.{routing_fault}
+use Rattle.cm_command.proofs.lemmas.line.Step.{routing_fault}
 use Rattle.cm_command.proofs.step.take_routing.Goals as goal
 
 pub returns-in-Err : goal.returns-in-Err

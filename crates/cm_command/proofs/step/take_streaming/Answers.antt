@@ -1,4 +1,4 @@
-use Rattle.cm_command.proofs.line.StepLemmas.{streaming_fault}
+use Rattle.cm_command.proofs.lemmas.line.Step.{streaming_fault}
 use Rattle.cm_command.proofs.step.take_streaming.Goals as goal
 
 pub returns-in-Err : goal.returns-in-Err

@@ -1,4 +1,4 @@
-use Rattle.cm_command.proofs.line.StepLemmas.{target_fault}
+use Rattle.cm_command.proofs.lemmas.line.Step.{target_fault}
 use Rattle.cm_command.proofs.step.take_target.Goals as goal
 
 pub returns-in-Err : goal.returns-in-Err

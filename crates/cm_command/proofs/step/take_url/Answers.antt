@@ -1,4 +1,4 @@
-use Rattle.cm_command.proofs.line.StepLemmas.{url_fault}
+use Rattle.cm_command.proofs.lemmas.line.Step.{url_fault}
 use Rattle.cm_command.proofs.step.take_url.Goals as goal
 
 pub returns-in-Err : goal.returns-in-Err

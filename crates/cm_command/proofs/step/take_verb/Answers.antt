@@ -1,4 +1,4 @@
-use Rattle.cm_command.proofs.line.StepLemmas.{verb_fault}
+use Rattle.cm_command.proofs.lemmas.line.Step.{verb_fault}
 use Rattle.cm_command.proofs.step.take_verb.Goals as goal
 
 pub returns-in-Err : goal.returns-in-Err

@@ -1,5 +1,5 @@
 use Rattle.std.proofs.Common.{rules}
-use Rattle.cm_command.proofs.line.StepLemmas.{none_first, none_more, none_of_all}
+use Rattle.cm_command.proofs.lemmas.line.Step.{none_first, none_more, none_of_all}
 use Rattle.cm_command.proofs.step.verb_of.Goals as goal
 
 pub loop-verb-init : goal.loop-verb-init

@@ -1,4 +1,4 @@
-use Rattle.cm_command.proofs.line.StepLemmas.{IsFirstVerb}
+use Rattle.cm_command.proofs.lemmas.line.Step.{IsFirstVerb}
 use Rattle.cm_command.proofs.step.verb_of.Given as goal
 
 -- none of the verbs so far

@@ -1,5 +1,5 @@
 use Rattle.std.proofs.Common.{rules}
-use Rattle.cm_command.proofs.line.StepLemmas.{no_verb, verb_more, all_verbs}
+use Rattle.cm_command.proofs.lemmas.line.Step.{no_verb, verb_more, all_verbs}
 use Rattle.cm_command.proofs.step.verb_prefixes.Goals as goal
 
 pub loop-verb-init : goal.loop-verb-init

@@ -1,5 +1,5 @@
 use Rattle.cm_command.specs.Counts.{CountsPrefixes}
-use Rattle.cm_command.proofs.line.StepLemmas.{IsFirstVerb}
+use Rattle.cm_command.proofs.lemmas.line.Step.{IsFirstVerb}
 use Rattle.cm_command.proofs.step.verb_prefixes.Given as goal
 
 -- the prefixes that the verbs so far begin with

@@ -1,6 +1,6 @@
 use Rattle.std.proofs.lemmas.List.Elements.{All-push}
 use Rattle.cm_names.specs.Moniker.{IsChildName}
-use Rattle.cm_command.proofs.bytes.Parts.{child_further, child_ended, child_cut, nothing}
+use Rattle.cm_command.proofs.lemmas.bytes.Parts.{child_further, child_ended, child_cut, nothing}
 use Rattle.cm_command.proofs.tokens.children_in.Goals as goal
 
 pub parts-preserved : goal.parts-preserved

@@ -1,4 +1,4 @@
-use Rattle.cm_command.proofs.counts.MonikerCounts.{moniker_utf8}
+use Rattle.cm_command.proofs.lemmas.counts.MonikerCounts.{moniker_utf8}
 use Rattle.cm_command.proofs.tokens.judge_moniker.Goals as goal
 
 pub unreachable-requires : goal.unreachable-requires

@@ -1,5 +1,5 @@
 use Rattle.std.proofs.Common.{rules}
-use Rattle.cm_command.proofs.counts.KindLemmas.{counts_no_literal, counts_next_literal, all_literals}
+use Rattle.cm_command.proofs.lemmas.counts.Kind.{counts_no_literal, counts_next_literal, all_literals}
 use Rattle.cm_command.proofs.tokens.literal_prefixes.Goals as goal
 
 pub loop-literal-init : goal.loop-literal-init

@@ -1,5 +1,5 @@
 use Rattle.std.proofs.Common.{rules}
-use Rattle.cm_command.proofs.counts.MonikerCounts.{moniker_stops, moniker_full}
+use Rattle.cm_command.proofs.lemmas.counts.MonikerCounts.{moniker_stops, moniker_full}
 use Rattle.cm_command.proofs.tokens.moniker_prefixes.Goals as goal
 
 pub returns-in-Some : goal.returns-in-Some

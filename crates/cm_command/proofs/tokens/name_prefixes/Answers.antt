@@ -2,7 +2,7 @@ use Rattle.std.proofs.Common.{rules, arith, sym, subst}
 use Rattle.std.proofs.lemmas.List.{nil_from_length}
 use Rattle.cm_names.specs.Name.{IsName}
 use Rattle.cm_command.specs.Counts.{CountsPrefixes}
-use Rattle.cm_command.proofs.counts.NameCounts.{no_byte, bad_first, good_first, split_first}
+use Rattle.cm_command.proofs.lemmas.counts.NameCounts.{no_byte, bad_first, good_first, split_first}
 use Rattle.cm_command.proofs.tokens.name_prefixes.Goals as goal
 
 pub returns-in-empty : goal.returns-in-empty

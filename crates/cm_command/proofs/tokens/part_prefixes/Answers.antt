@@ -1,5 +1,5 @@
 use Rattle.std.proofs.Common.{rules, arith, sym, ◌∙◌, true≢false}
-use Rattle.cm_command.proofs.counts.PathCounts.{stuck, full, unended, further, ended}
+use Rattle.cm_command.proofs.lemmas.counts.PathCounts.{stuck, full, unended, further, ended}
 use Rattle.cm_command.proofs.tokens.part_prefixes.Goals as goal
 use Rattle.cm_command.proofs.tokens.part_prefixes.Goals.{else-i-limit-2-via-then-i-limit-2+else-not-may_end, else-i-limit-2-via-else-i-limit-2}
 

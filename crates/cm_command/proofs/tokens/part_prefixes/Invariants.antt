@@ -1,4 +1,4 @@
-use Rattle.cm_command.proofs.counts.PathCounts.{IsUnderWay}
+use Rattle.cm_command.proofs.lemmas.counts.PathCounts.{IsUnderWay}
 use Rattle.cm_command.proofs.tokens.part_prefixes.Given as goal
 
 -- the place is that behind the bytes so far

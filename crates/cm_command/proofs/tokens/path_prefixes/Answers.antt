@@ -1,6 +1,6 @@
 use Rattle.std.proofs.Common.{codes}
-use Rattle.cm_command.proofs.counts.KindLemmas.{counts_no_prefix}
-use Rattle.cm_command.proofs.counts.PathCounts.{path_behind, path_counts}
+use Rattle.cm_command.proofs.lemmas.counts.Kind.{counts_no_prefix}
+use Rattle.cm_command.proofs.lemmas.counts.PathCounts.{path_behind, path_counts}
 use Rattle.cm_command.proofs.tokens.path_prefixes.Goals as goal
 
 pub returns-in-Some : goal.returns-in-Some

@@ -1,5 +1,5 @@
-use Rattle.cm_command.proofs.counts.ChildCounts.{bad_first_name, bad_second_name}
-use Rattle.cm_command.proofs.bytes.Cuts.{begins_with_piece, piece_and_rest}
+use Rattle.cm_command.proofs.lemmas.counts.ChildCounts.{bad_first_name, bad_second_name}
+use Rattle.cm_command.proofs.lemmas.bytes.Cuts.{begins_with_piece, piece_and_rest}
 use Rattle.cm_command.proofs.tokens.read_child.Goals as goal
 
 pub returns-in-Err : goal.returns-in-Err

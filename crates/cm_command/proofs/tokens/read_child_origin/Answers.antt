@@ -1,6 +1,6 @@
 use Rattle.std.proofs.Common.{codes}
-use Rattle.cm_command.proofs.counts.KindLemmas.{fault_of_rest, fault_no_prefix}
-use Rattle.cm_command.proofs.counts.ChildCounts.{origin_behind}
+use Rattle.cm_command.proofs.lemmas.counts.Kind.{fault_of_rest, fault_no_prefix}
+use Rattle.cm_command.proofs.lemmas.counts.ChildCounts.{origin_behind}
 use Rattle.cm_command.proofs.tokens.read_child_origin.Goals as goal
 
 pub returns-in_default : goal.returns-in_default

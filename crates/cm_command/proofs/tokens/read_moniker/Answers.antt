@@ -2,7 +2,7 @@ use Rattle.std.proofs.Common.{◌≡◌, ◌∙◌, All, IfSome, map, subst, sym
 use Rattle.cm_names.specs.Child.{child_text}
 use Rattle.cm_names.specs.Moniker.{IsChildName, IsMonikerTextOf}
 use Rattle.cm_names.specs.Path.{parts_of}
-use Rattle.cm_names.proofs.texts.MonikerParts.{made}
+use Rattle.cm_names.proofs.lemmas.texts.MonikerParts.{made}
 use Rattle.cm_command.proofs.tokens.read_moniker.Goals as goal
 
 pub returns-in_ok-new-in-Some : goal.returns-in_ok-new-in-Some

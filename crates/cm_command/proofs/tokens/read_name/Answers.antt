@@ -1,8 +1,8 @@
 use Rattle.std.proofs.Common.{sym, ◌∙◌, ap}
 use Rattle.std.proofs.lemmas.Option.{none-some}
 use Rattle.cm_names.specs.Name.{name_fault}
-use Rattle.cm_names.proofs.texts.NameLemmas.{name_faultless}
-use Rattle.cm_command.proofs.counts.NameCounts.{name_utf8}
+use Rattle.cm_names.proofs.lemmas.texts.Name.{name_faultless}
+use Rattle.cm_command.proofs.lemmas.counts.NameCounts.{name_utf8}
 use Rattle.cm_command.proofs.tokens.read_name.Goals as goal
 
 pub returns-in_default : goal.returns-in_default

@@ -1,5 +1,5 @@
 use Rattle.std.proofs.Common.{sym, true≢false}
-use Rattle.cm_command.proofs.counts.ChildCounts.{no_origin}
+use Rattle.cm_command.proofs.lemmas.counts.ChildCounts.{no_origin}
 use Rattle.cm_command.proofs.tokens.read_named_origin.Goals as goal
 
 pub returns : goal.returns

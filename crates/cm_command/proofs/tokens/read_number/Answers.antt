@@ -1,6 +1,6 @@
 use Rattle.std.proofs.Common.{rules, arith, ◌+◌}
-use Rattle.cm_command.proofs.counts.NumberCounts.{zero_stops, digit_stops, digit_more, nothing_counts, nothing_is_no_number}
-use Rattle.cm_command.proofs.counts.UrlLemmas.{not_whole}
+use Rattle.cm_command.proofs.lemmas.counts.NumberCounts.{zero_stops, digit_stops, digit_more, nothing_counts, nothing_is_no_number}
+use Rattle.cm_command.proofs.lemmas.counts.Url.{not_whole}
 use Rattle.cm_command.proofs.tokens.read_number.Goals as goal
 
 pub returns-then-number-eq0 : goal.returns-then-number-eq0

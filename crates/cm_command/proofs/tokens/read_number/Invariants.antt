@@ -1,4 +1,4 @@
-use Rattle.cm_command.proofs.counts.NumberCounts.{IsSoFar}
+use Rattle.cm_command.proofs.lemmas.counts.NumberCounts.{IsSoFar}
 use Rattle.cm_command.proofs.tokens.read_number.Given as goal
 
 -- the number that the digits so far stand for

@@ -1,4 +1,4 @@
-use Rattle.cm_command.proofs.counts.ChildCounts.{origin_fault}
+use Rattle.cm_command.proofs.lemmas.counts.ChildCounts.{origin_fault}
 use Rattle.cm_command.proofs.tokens.read_origin.Goals as goal
 
 pub returns-in-Err-read_child_origin : goal.returns-in-Err-read_child_origin

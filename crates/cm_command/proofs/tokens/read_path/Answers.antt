@@ -1,8 +1,8 @@
 use Rattle.std.proofs.Common.{sym, ◌∙◌, ap}
 use Rattle.std.proofs.lemmas.Option.{none-some}
 use Rattle.cm_names.specs.Path.{path_fault}
-use Rattle.cm_names.proofs.texts.PathLemmas.{path_faultless}
-use Rattle.cm_command.proofs.counts.PathCounts.{path_utf8}
+use Rattle.cm_names.proofs.lemmas.texts.Path.{path_faultless}
+use Rattle.cm_command.proofs.lemmas.counts.PathCounts.{path_utf8}
 use Rattle.cm_command.proofs.tokens.read_path.Goals as goal
 
 pub returns-in_default : goal.returns-in_default

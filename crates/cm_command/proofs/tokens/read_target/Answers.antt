@@ -1,4 +1,4 @@
-use Rattle.cm_command.proofs.counts.MonikerCounts.{target_fault}
+use Rattle.cm_command.proofs.lemmas.counts.MonikerCounts.{target_fault}
 use Rattle.cm_command.proofs.tokens.read_target.Goals as goal
 
 pub returns-in-Err-read_moniker : goal.returns-in-Err-read_moniker

@@ -1,5 +1,5 @@
 use Rattle.std.proofs.Common.{rules}
-use Rattle.cm_command.proofs.counts.UrlLemmas.{not_whole, nothing_is_no_url, url_utf8}
+use Rattle.cm_command.proofs.lemmas.counts.Url.{not_whole, nothing_is_no_url, url_utf8}
 use Rattle.cm_command.proofs.tokens.read_url.Goals as goal
 
 pub returns-then-is_empty : goal.returns-then-is_empty

@@ -1,4 +1,4 @@
-use Rattle.cm_command.proofs.counts.PathCounts.{subdir_counts}
+use Rattle.cm_command.proofs.lemmas.counts.PathCounts.{subdir_counts}
 use Rattle.cm_command.proofs.tokens.subdir_prefixes.Goals as goal
 
 pub returns : goal.returns

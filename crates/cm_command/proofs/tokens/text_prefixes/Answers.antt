@@ -1,5 +1,5 @@
 use Rattle.std.proofs.Common.{rules}
-use Rattle.cm_command.proofs.counts.KindLemmas.{counts_literal}
+use Rattle.cm_command.proofs.lemmas.counts.Kind.{counts_literal}
 use Rattle.cm_command.proofs.tokens.text_prefixes.Goals as goal
 
 pub returns : goal.returns

@@ -1,5 +1,5 @@
 use Rattle.std.proofs.Common.{rules}
-use Rattle.cm_command.proofs.counts.UrlLemmas.{url_counts, url_whole}
+use Rattle.cm_command.proofs.lemmas.counts.Url.{url_counts, url_whole}
 use Rattle.cm_command.proofs.tokens.url_prefixes.Goals as goal
 
 pub returns : goal.returns

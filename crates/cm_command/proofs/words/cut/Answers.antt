@@ -1,6 +1,6 @@
 use Rattle.std.proofs.Common.{sym}
 use Rattle.std.proofs.lemmas.List.{take_rest}
-use Rattle.cm_command.proofs.bytes.Pieces.{piece_clean, piece_whole}
+use Rattle.cm_command.proofs.lemmas.bytes.Pieces.{piece_clean, piece_whole}
 use Rattle.cm_command.proofs.words.cut.Goals as goal
 
 pub returns-in-Some-clause-clean : goal.returns-in-Some-clause-clean

@@ -1,5 +1,5 @@
 use Rattle.std.proofs.Common.{rules, arith}
-use Rattle.cm_command.proofs.bytes.Pieces.{lane_more}
+use Rattle.cm_command.proofs.lemmas.bytes.Pieces.{lane_more}
 use Rattle.cm_command.proofs.words.lane_number.Goals as goal
 
 pub loop-digit-preserved : goal.loop-digit-preserved

@@ -1,4 +1,4 @@
-use Rattle.cm_command.proofs.bytes.Found.{found_place, found_none, found_bound}
+use Rattle.cm_command.proofs.lemmas.bytes.Found.{found_place, found_none, found_bound}
 use Rattle.cm_command.proofs.words.position_of.Goals as goal
 
 pub returns-clause-place : goal.returns-clause-place

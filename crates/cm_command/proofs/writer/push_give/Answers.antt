@@ -1,5 +1,5 @@
 use Rattle.std.proofs.Common.{rules}
-use Rattle.cm_command.proofs.written.WriterLemmas.{give_is}
+use Rattle.cm_command.proofs.lemmas.written.Writer.{give_is}
 use Rattle.cm_command.proofs.writer.push_give.Goals as goal
 
 pub returns : goal.returns

@@ -1,4 +1,4 @@
-use Rattle.cm_command.proofs.written.ReadCommands.{what_is_read_lem}
+use Rattle.cm_command.proofs.lemmas.written.ReadCommands.{what_is_read_lem}
 use Rattle.cm_command.proofs.writer.what_is_read_is_writable.Goals as goal
 
 pub returns : goal.returns

@@ -1,7 +1,7 @@
 use Rattle.std.proofs.Common.{rules}
 use Rattle.std.specs.List.{flat_map}
 use Rattle.cm_command.specs.Written.{give_words, target_text}
-use Rattle.cm_command.proofs.written.WriterLemmas.{create_is}
+use Rattle.cm_command.proofs.lemmas.written.Writer.{create_is}
 use Rattle.cm_command.proofs.writer.write_create.Goals as goal
 
 pub returns : goal.returns

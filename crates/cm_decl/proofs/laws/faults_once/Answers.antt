@@ -1,4 +1,4 @@
-use Rattle.cm_decl.proofs.faults.FirstFaults.{fault_once, valid_faultless}
+use Rattle.cm_decl.proofs.lemmas.faults.FirstFaults.{fault_once, valid_faultless}
 use Rattle.cm_decl.proofs.laws.faults_once.Goals as goal
 
 pub returns-clause-once : goal.returns-clause-once

@@ -1,5 +1,5 @@
 use Rattle.std.proofs.Common.{refl, inl}
-use Rattle.cm_decl.proofs.faults.FirstFaults.{computes_some}
+use Rattle.cm_decl.proofs.lemmas.faults.FirstFaults.{computes_some}
 use Rattle.cm_decl.proofs.laws.has_each_fault.Goals as goal
 
 pub returns-clause-repeated_name : goal.returns-clause-repeated_name

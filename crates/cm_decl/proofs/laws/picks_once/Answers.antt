@@ -1,4 +1,4 @@
-use Rattle.cm_decl.proofs.cycles.Picking.{picks_once, picked_is_cycle}
+use Rattle.cm_decl.proofs.lemmas.cycles.Picking.{picks_once, picked_is_cycle}
 use Rattle.cm_decl.proofs.laws.picks_once.Goals as goal
 
 pub returns-clause-once : goal.returns-clause-once

@@ -3,7 +3,7 @@ use Rattle.std.specs.Prelude.{slice_get, not, ◌==◌}
 use Rattle.std.specs.Option.{option_cmp}
 use Rattle.std.specs.Ordering.{nat_cmp, ordering_index}
 use Rattle.cm_names.specs.Child.{child_text}
-use Rattle.cm_decl.proofs.orders.TextOrder.{cmp_decided, cmp_tied, cmp_end}
+use Rattle.cm_decl.proofs.lemmas.orders.TextOrder.{cmp_decided, cmp_tied, cmp_end}
 use Rattle.cm_decl.proofs.node.cmp_texts.Goals as goal
 
 pub returns-then-ne : goal.returns-then-ne

@@ -1,5 +1,5 @@
 use Rattle.std.proofs.Common.{◌≤◌, length, ap, arith}
-use Rattle.cm_decl.proofs.orders.TextOrder.{name_short}
+use Rattle.cm_decl.proofs.lemmas.orders.TextOrder.{name_short}
 use Rattle.cm_decl.proofs.node.text_len.Goals as goal
 
 pub overflow_add-result : goal.overflow_add-result

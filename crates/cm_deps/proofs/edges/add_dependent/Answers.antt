@@ -1,8 +1,8 @@
 use Rattle.std.proofs.Common.{◌≡◌, ◌+◌, ◌<◌, [], ◌∷◌, ◌++◌, length, take, set, sym, ◌∙◌, ap, subst, get_or, arith}
 use Rattle.std.proofs.lemmas.List.{get_or_default, take_all}
 use Rattle.cm_deps.specs.Edges.{holds, row}
-use Rattle.cm_deps.proofs.listed.Listing.{holds_at}
-use Rattle.cm_deps.proofs.listed.Gathering.{IsAdding, adding_none, adding_more}
+use Rattle.cm_deps.proofs.lemmas.listed.Listing.{holds_at}
+use Rattle.cm_deps.proofs.lemmas.listed.Gathering.{IsAdding, adding_none, adding_more}
 use Rattle.cm_deps.proofs.edges.add_dependent.Goals as goal
 
 pub loop-y-init : goal.loop-y-init

@@ -1,5 +1,5 @@
 use Rattle.std.proofs.Common.{take}
-use Rattle.cm_deps.proofs.listed.Gathering.{IsAdding}
+use Rattle.cm_deps.proofs.lemmas.listed.Gathering.{IsAdding}
 use Rattle.cm_deps.proofs.edges.add_dependent.Given as goal
 
 abbrev pub invariant-loop-y : goal.invariant-loop-y

@@ -1,8 +1,8 @@
 use Rattle.std.proofs.Common.{◌<◌, length, refl, sym, ◌∙◌, ap, get_or, arith}
 use Rattle.std.proofs.lemmas.List.{take_all}
 use Rattle.cm_deps.specs.Edges.{holds}
-use Rattle.cm_deps.proofs.listed.Listing.{holds_at}
-use Rattle.cm_deps.proofs.loops.Searching.{added_none, added_more}
+use Rattle.cm_deps.proofs.lemmas.listed.Listing.{holds_at}
+use Rattle.cm_deps.proofs.lemmas.loops.Searching.{added_none, added_more}
 use Rattle.cm_deps.proofs.edges.add_new.Goals as goal
 
 pub loop-x-init : goal.loop-x-init

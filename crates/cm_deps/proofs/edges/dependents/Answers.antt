@@ -1,7 +1,7 @@
 use Rattle.std.proofs.Common.{◌≡◌, ◌<◌, [], length, sym, ◌∙◌, ap, arith}
 use Rattle.std.proofs.lemmas.List.{get_or_default}
 use Rattle.cm_deps.specs.Edges.{holds, row}
-use Rattle.cm_deps.proofs.listed.Gathering.{gathering_none, gathering_more, gathered}
+use Rattle.cm_deps.proofs.lemmas.listed.Gathering.{gathering_none, gathering_more, gathered}
 use Rattle.cm_deps.proofs.edges.dependents.Goals as goal
 
 pub loop-x-init : goal.loop-x-init

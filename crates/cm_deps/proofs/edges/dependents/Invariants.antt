@@ -1,4 +1,4 @@
-use Rattle.cm_deps.proofs.listed.Gathering.{IsGathering}
+use Rattle.cm_deps.proofs.lemmas.listed.Gathering.{IsGathering}
 use Rattle.cm_deps.proofs.edges.dependents.Given as goal
 
 abbrev pub invariant-loop-x : goal.invariant-loop-x

@@ -1,5 +1,5 @@
 use Rattle.std.proofs.Common.{◌+◌, [], ◌∷◌, ◌++◌, refl, sym, ◌∙◌, ap, subst, arith}
-use Rattle.cm_deps.proofs.listed.Gathering.{IsFilling, filling_more}
+use Rattle.cm_deps.proofs.lemmas.listed.Gathering.{IsFilling, filling_more}
 use Rattle.cm_deps.proofs.edges.empty_rows.Goals as goal
 
 pub loop-index-init : goal.loop-index-init

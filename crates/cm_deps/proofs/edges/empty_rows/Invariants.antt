@@ -1,4 +1,4 @@
-use Rattle.cm_deps.proofs.listed.Gathering.{IsFilling}
+use Rattle.cm_deps.proofs.lemmas.listed.Gathering.{IsFilling}
 use Rattle.cm_deps.proofs.edges.empty_rows.Given as goal
 
 abbrev pub invariant-loop-index : goal.invariant-loop-index

@@ -2,7 +2,7 @@ use Rattle.std.proofs.Common.{◌≡◌, ◌<◌, [], length, set, true, false, 
 use Rattle.std.specs.List.{list_all}
 use Rattle.std.proofs.lemmas.List.{get_or_default}
 use Rattle.cm_deps.specs.Edges.{is_set, row, IsListing}
-use Rattle.cm_deps.proofs.listed.Listing.{listing_more, one_fails}
+use Rattle.cm_deps.proofs.lemmas.listed.Listing.{listing_more, one_fails}
 use Rattle.cm_deps.proofs.edges.list_if_ready.Goals as goal
 
 pub returns-in_ok-push-clause-listing : goal.returns-in_ok-push-clause-listing

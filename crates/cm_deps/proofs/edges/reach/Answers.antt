@@ -2,8 +2,8 @@ use Rattle.std.proofs.Common.{◌≡◌, ◌<◌, [], length, false, true≢fals
 use Rattle.std.specs.Prelude.{replicate}
 use Rattle.std.proofs.lemmas.List.{get_or_default, length-replicate}
 use Rattle.cm_deps.specs.Edges.{row, IsVisited, IsAdded}
-use Rattle.cm_deps.proofs.listed.Listing.{holds_at}
-use Rattle.cm_deps.proofs.loops.Searching.{seen_none, searching_none, searching_more, searched, inside_more}
+use Rattle.cm_deps.proofs.lemmas.listed.Listing.{holds_at}
+use Rattle.cm_deps.proofs.lemmas.loops.Searching.{seen_none, searching_none, searching_more, searched, inside_more}
 use Rattle.cm_deps.proofs.edges.reach.Goals as goal
 
 pub add_after-requires-clause-size : goal.add_after-requires-clause-size

@@ -1,6 +1,6 @@
 use Rattle.std.proofs.Common.{◌≡◌, ℕ, ◌<◌, IsTrue, List, Bool, length}
 use Rattle.cm_deps.specs.Edges.{holds, IsVisited}
-use Rattle.cm_deps.proofs.loops.Searching.{IsSearching}
+use Rattle.cm_deps.proofs.lemmas.loops.Searching.{IsSearching}
 use Rattle.cm_deps.proofs.edges.reach.Given as goal
 
 pub record IsReaching (after : List (List ℕ)) (start : ℕ) (seen : List Bool) (found : List ℕ) (head : ℕ) : Type 0 where

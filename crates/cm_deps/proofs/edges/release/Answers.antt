@@ -1,7 +1,7 @@
 use Rattle.std.proofs.Common.{true≢false, sym, ◌∙◌, ap, get_or}
 use Rattle.std.proofs.lemmas.List.{take_all}
 use Rattle.cm_deps.specs.Edges.{holds, IsSettled}
-use Rattle.cm_deps.proofs.listed.Listing.{holds_at, prefix_more, settled_longer, extends_on, same_extends}
+use Rattle.cm_deps.proofs.lemmas.listed.Listing.{holds_at, prefix_more, settled_longer, extends_on, same_extends}
 use Rattle.cm_deps.proofs.edges.release.Goals as goal
 
 pub loop-x-init : goal.loop-x-init

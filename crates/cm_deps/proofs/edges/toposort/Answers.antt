@@ -2,7 +2,7 @@ use Rattle.std.proofs.Common.{◌≡◌, ◌<◌, [], length, set, true, false, 
 use Rattle.std.specs.Prelude.{replicate}
 use Rattle.std.proofs.lemmas.List.{get_or_default}
 use Rattle.cm_deps.specs.Edges.{holds, row, IsSettled, IsListing}
-use Rattle.cm_deps.proofs.listed.Toposorting.{IsToposorting, listing_none, toposorting_none, listing_done, toposorting_next, toposorted, listed_inside, settled_more}
+use Rattle.cm_deps.proofs.lemmas.listed.Toposorting.{IsToposorting, listing_none, toposorting_none, listing_done, toposorting_next, toposorted, listed_inside, settled_more}
 use Rattle.cm_deps.proofs.edges.toposort.Goals as goal
 
 pub loop-x-init : goal.loop-x-init

@@ -1,6 +1,6 @@
 use Rattle.std.proofs.Common.{ℕ, ◌<◌, List, Bool}
 use Rattle.cm_deps.specs.Edges.{IsListing, IsSettled}
-use Rattle.cm_deps.proofs.listed.Toposorting.{IsToposorting}
+use Rattle.cm_deps.proofs.lemmas.listed.Toposorting.{IsToposorting}
 use Rattle.cm_deps.proofs.edges.toposort.Given as goal
 
 -- the nodes before x are settled

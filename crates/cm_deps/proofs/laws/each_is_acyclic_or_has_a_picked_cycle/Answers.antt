@@ -1,4 +1,4 @@
-use Rattle.cm_deps.proofs.given.Picked.{acyclic_or_picked}
+use Rattle.cm_deps.proofs.lemmas.given.Picked.{acyclic_or_picked}
 use Rattle.cm_deps.proofs.laws.each_is_acyclic_or_has_a_picked_cycle.Goals as goal
 
 pub returns : goal.returns

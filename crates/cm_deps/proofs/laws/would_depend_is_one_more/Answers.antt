@@ -1,4 +1,4 @@
-use Rattle.cm_deps.proofs.given.OneMore.{one_more}
+use Rattle.cm_deps.proofs.lemmas.given.OneMore.{one_more}
 use Rattle.cm_deps.proofs.laws.would_depend_is_one_more.Goals as goal
 
 pub returns : goal.returns

@@ -3,7 +3,7 @@ use Rattle.std.specs.Prelude.{IfSome, IfNone}
 use Rattle.std.specs.List.{list_any}
 use Rattle.cm_decl.specs.Same.{same_node}
 use Rattle.cm_deps.specs.Nodes.{IsNodeNumber}
-use Rattle.cm_deps.proofs.numbers.Placing.{number_some, number_none}
+use Rattle.cm_deps.proofs.lemmas.numbers.Placing.{number_some, number_none}
 use Rattle.cm_deps.proofs.nodes.number.Goals as goal
 
 pub returns-clause-some : goal.returns-clause-some

@@ -4,7 +4,7 @@ use Rattle.cm_decl.specs.declared.node.Node.{Node}
 use Rattle.cm_decl.specs.declared.node.Node.TheVariants.{Child}
 use Rattle.cm_decl.specs.Graph.{static_node}
 use Rattle.cm_decl.specs.NodeOrder.{node_cmp}
-use Rattle.cm_deps.proofs.numbers.Placing.{placed_none, placed_more, placed_end}
+use Rattle.cm_deps.proofs.lemmas.numbers.Placing.{placed_none, placed_more, placed_end}
 use Rattle.cm_deps.proofs.nodes.put_declared.Goals as goal
 
 pub loop-child-init : goal.loop-child-init

@@ -7,7 +7,7 @@ use Rattle.cm_decl.specs.Graph.{static_node}
 use Rattle.cm_decl.specs.Same.{same_node}
 use Rattle.cm_decl.specs.NodeOrder.{node_cmp}
 use Rattle.cm_deps.specs.Nodes.{IsIncreasing}
-use Rattle.cm_deps.proofs.numbers.Placing.{nodes_all}
+use Rattle.cm_deps.proofs.lemmas.numbers.Placing.{nodes_all}
 use Rattle.cm_deps.proofs.nodes.sorted_nodes.Goals as goal
 
 pub returns : goal.returns

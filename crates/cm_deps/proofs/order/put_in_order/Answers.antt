@@ -1,7 +1,7 @@
 use Rattle.std.proofs.Common.{sym, ◌∙◌, ap, subst}
 use Rattle.cm_deps.specs.Edges.{holds, IsToposorted}
 use Rattle.cm_deps.specs.Implied.{IsFull, IsOrderedGraph}
-use Rattle.cm_deps.proofs.listed.Shaping.{reach_inside, ordered}
+use Rattle.cm_deps.proofs.lemmas.listed.Shaping.{reach_inside, ordered}
 use Rattle.cm_deps.proofs.order.put_in_order.Goals as goal
 
 pub with_implied-requires-clause-inside : goal.with_implied-requires-clause-inside

@@ -1,5 +1,5 @@
 use Rattle.std.proofs.Common.{◌≡◌, length, subst, arith}
-use Rattle.cm_deps.proofs.listed.Shaping.{IsFillingFull, full_of}
+use Rattle.cm_deps.proofs.lemmas.listed.Shaping.{IsFillingFull, full_of}
 use Rattle.cm_deps.proofs.order.with_implied.Goals as goal
 
 pub returns : goal.returns

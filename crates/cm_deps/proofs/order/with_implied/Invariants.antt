@@ -1,4 +1,4 @@
-use Rattle.cm_deps.proofs.listed.Shaping.{IsFillingFull}
+use Rattle.cm_deps.proofs.lemmas.listed.Shaping.{IsFillingFull}
 use Rattle.cm_deps.proofs.order.with_implied.Given as goal
 
 abbrev pub invariant-loop-x : goal.invariant-loop-x

@@ -1,5 +1,5 @@
 use Rattle.std.proofs.Common.{get_or}
-use Rattle.cm_deps.proofs.listed.Listing.{holds_at}
+use Rattle.cm_deps.proofs.lemmas.listed.Listing.{holds_at}
 use Rattle.cm_deps.proofs.outcome.cycle_at.Goals as goal
 
 pub node_at-requires : goal.node_at-requires

@@ -1,7 +1,7 @@
 use Rattle.std.proofs.Common.{◌∷◌, [], ◌++◌, get_or, sym, ◌∙◌, ap}
 use Rattle.cm_deps.specs.Nodes.{at}
-use Rattle.cm_deps.proofs.given.Outcomes.{nodes_more}
-use Rattle.cm_deps.proofs.listed.Listing.{holds_at}
+use Rattle.cm_deps.proofs.lemmas.given.Outcomes.{nodes_more}
+use Rattle.cm_deps.proofs.lemmas.listed.Listing.{holds_at}
 use Rattle.cm_deps.proofs.outcome.nodes_at.Goals as goal
 
 pub node_at-requires : goal.node_at-requires

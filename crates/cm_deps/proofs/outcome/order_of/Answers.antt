@@ -5,7 +5,7 @@ use Rattle.cm_deps.specs.Edges.{holds, IsBelow}
 use Rattle.cm_deps.specs.Implied.{IsOrderedGraph}
 use Rattle.cm_deps.specs.Nodes.{at}
 use Rattle.cm_deps.specs.Shapes.{IsShape, IsLeftRing}
-use Rattle.cm_deps.proofs.given.Outcomes.{realm_below, realm_some, order_inside, order_made, ring_inside, ring_some, cycle_made}
+use Rattle.cm_deps.proofs.lemmas.given.Outcomes.{realm_below, realm_some, order_inside, order_made, ring_inside, ring_some, cycle_made}
 use Rattle.cm_deps.proofs.outcome.order_of.Goals as goal
 
 pub arrange-requires-clause-below : goal.arrange-requires-clause-below

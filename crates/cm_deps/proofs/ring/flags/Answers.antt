@@ -1,7 +1,7 @@
 use Rattle.std.proofs.Common.{◌<◌, length, take, true, sym, ◌∙◌, ap, get_or, arith}
 use Rattle.std.proofs.lemmas.List.{length-set, take_more}
 use Rattle.cm_deps.specs.Edges.{holds}
-use Rattle.cm_deps.proofs.listed.Listing.{holds_at, flag_more}
+use Rattle.cm_deps.proofs.lemmas.listed.Listing.{holds_at, flag_more}
 use Rattle.cm_deps.proofs.ring.flags.Goals as goal
 
 pub index_mut-requires : goal.index_mut-requires

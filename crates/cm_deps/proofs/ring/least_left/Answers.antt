@@ -1,5 +1,5 @@
 use Rattle.std.proofs.Common.{get_or}
-use Rattle.cm_deps.proofs.listed.Listing.{holds_at}
+use Rattle.cm_deps.proofs.lemmas.listed.Listing.{holds_at}
 use Rattle.cm_deps.proofs.ring.least_left.Goals as goal
 
 pub bounds-listed-node : goal.bounds-listed-node

@@ -1,7 +1,7 @@
 use Rattle.std.proofs.Common.{◌≡◌, ℕ, ◌<◌, length, Some, arith}
 use Rattle.std.specs.Prelude.{slice_get}
 use Rattle.std.proofs.lemmas.Option.{get_or_from_slice_get}
-use Rattle.cm_deps.proofs.loops.Cores.{held_at}
+use Rattle.cm_deps.proofs.lemmas.loops.Cores.{held_at}
 use Rattle.cm_deps.proofs.ring.place_of.Goals as goal
 
 pub returns-clause-there : goal.returns-clause-there

@@ -2,8 +2,8 @@ use Rattle.std.proofs.Common.{◌≡◌, ℕ, ◌<◌, length, drop, Some, ◌�
 use Rattle.std.specs.Prelude.{slice_get}
 use Rattle.cm_deps.specs.Edges.{is_set}
 use Rattle.cm_deps.specs.Ring.{IsFirstLeft, IsWalk, IsRotated}
-use Rattle.cm_deps.proofs.loops.Cores.{held_at}
-use Rattle.cm_deps.proofs.loops.Rings.{ring_found}
+use Rattle.cm_deps.proofs.lemmas.loops.Cores.{held_at}
+use Rattle.cm_deps.proofs.lemmas.loops.Rings.{ring_found}
 use Rattle.cm_deps.proofs.ring.ring.Goals as goal
 
 pub flags-requires : goal.flags-requires

@@ -2,7 +2,7 @@ use Rattle.std.proofs.Common.{◌≡◌, ◌+◌, ◌<◌, [], length, set, true
 use Rattle.std.proofs.lemmas.List.{get_or_default}
 use Rattle.cm_deps.specs.Edges.{is_set, row}
 use Rattle.cm_deps.specs.Ring.{IsLeastLeft}
-use Rattle.cm_deps.proofs.loops.Rings.{IsWalking, walking_more, walked_all}
+use Rattle.cm_deps.proofs.lemmas.loops.Rings.{IsWalking, walking_more, walked_all}
 use Rattle.cm_deps.proofs.ring.walk.Goals as goal
 
 pub loop-step-preserved : goal.loop-step-preserved

@@ -1,4 +1,4 @@
-use Rattle.cm_deps.proofs.loops.Rings.{IsWalking}
+use Rattle.cm_deps.proofs.lemmas.loops.Rings.{IsWalking}
 use Rattle.cm_deps.proofs.ring.walk.Given as goal
 
 abbrev pub invariant-loop-step : goal.invariant-loop-step

@@ -7,7 +7,7 @@ use Rattle.cm_decl.specs.Same.{same_node}
 use Rattle.cm_deps.specs.Edges.{row}
 use Rattle.cm_deps.specs.Nodes.{IsNodeNumber}
 use Rattle.cm_deps.specs.Sources.{IsEdges, ListsMore, strong_sources}
-use Rattle.cm_deps.proofs.given.Sourcing.{given_more, given_none}
+use Rattle.cm_deps.proofs.lemmas.given.Sourcing.{given_more, given_none}
 use Rattle.cm_deps.proofs.sources.add_given.Goals as goal
 use Rattle.cm_deps.proofs.sources.add_given.Goals.{in-Some+in_ok-add_gives, in_default}
 

@@ -2,7 +2,7 @@ use Rattle.std.proofs.Common.{◌≡◌, true, false, sym, subst, take, ◌+◌}
 use Rattle.cm_decl.specs.declared.rows.Give.{Give}
 use Rattle.cm_decl.specs.Graph.{is_strong}
 use Rattle.cm_deps.specs.Sources.{ListsMore, strong_sources}
-use Rattle.cm_deps.proofs.given.Sourcing.{more_passes, more_fails}
+use Rattle.cm_deps.proofs.lemmas.given.Sourcing.{more_passes, more_fails}
 use Rattle.cm_deps.proofs.sources.add_gives.Goals as goal
 use Rattle.cm_deps.proofs.sources.add_gives.Goals.{then-is_strong+in_ok-add_source, else-is_strong}
 

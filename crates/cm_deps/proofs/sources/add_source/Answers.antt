@@ -1,7 +1,7 @@
 use Rattle.std.proofs.Common.{◌≡◌, [], ◌∷◌, ◌++◌, sym, ◌∙◌}
 use Rattle.std.proofs.lemmas.Result.{on_ok_weaker}
 use Rattle.cm_deps.specs.Sources.{ListsMore}
-use Rattle.cm_deps.proofs.given.Sourcing.{source_absent, added_none, added_number}
+use Rattle.cm_deps.proofs.lemmas.given.Sourcing.{source_absent, added_none, added_number}
 use Rattle.cm_deps.proofs.sources.add_source.Goals as goal
 
 pub returns-in-None : goal.returns-in-None

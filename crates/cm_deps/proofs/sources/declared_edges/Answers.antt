@@ -6,7 +6,7 @@ use Rattle.cm_decl.specs.Graph.{sources_of}
 use Rattle.cm_deps.specs.Edges.{row}
 use Rattle.cm_deps.specs.Nodes.{at}
 use Rattle.cm_deps.specs.Sources.{Lists}
-use Rattle.cm_deps.proofs.given.Sourcing.{rows_more}
+use Rattle.cm_deps.proofs.lemmas.given.Sourcing.{rows_more}
 use Rattle.cm_deps.proofs.sources.declared_edges.Goals as goal
 
 pub loop-node-preserved : goal.loop-node-preserved

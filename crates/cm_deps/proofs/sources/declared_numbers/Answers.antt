@@ -3,7 +3,7 @@ use Rattle.std.proofs.lemmas.Result.{IfOk-weaker}
 use Rattle.cm_decl.specs.declared.node.Node.{Node}
 use Rattle.cm_decl.specs.Graph.{sources_of}
 use Rattle.cm_deps.specs.Sources.{Lists, numbers_at, strong_sources, offers_of}
-use Rattle.cm_deps.proofs.given.Sourcing.{child_declared}
+use Rattle.cm_deps.proofs.lemmas.given.Sourcing.{child_declared}
 use Rattle.cm_deps.proofs.sources.declared_numbers.Goals as goal
 
 pub returns-in-Child : goal.returns-in-Child

@@ -7,7 +7,7 @@ use Rattle.std.specs.Map.{lookup}
 use Rattle.cm_decl.specs.declared.rows.Offer.{Offer}
 use Rattle.cm_decl.specs.Graph.{is_strong}
 use Rattle.cm_deps.specs.Sources.{Lists, ListsMore, numbers_at}
-use Rattle.cm_deps.proofs.given.Sourcing.{passing, more_none, offered_strong, offered_weak, offered_all}
+use Rattle.cm_deps.proofs.lemmas.given.Sourcing.{passing, more_none, offered_strong, offered_weak, offered_all}
 use Rattle.cm_deps.proofs.sources.offered.Goals as goal
 use Rattle.cm_deps.proofs.sources.offered.Goals.{then-is_strong+in_ok-add_offer, else-is_strong}
 

@@ -1,7 +1,7 @@
 use Rattle.std.proofs.Common.{subst, arith}
 use Rattle.cm_deps.specs.Outcome.{IsOutcome}
 use Rattle.cm_deps.specs.declared.outcome.Order.{Order}
-use Rattle.cm_dynamic.proofs.graphs.Graphs.{is_full, may_be}
+use Rattle.cm_dynamic.proofs.lemmas.graphs.Graphs.{is_full, may_be}
 use Rattle.cm_dynamic.proofs.create.by_graph.Goals as goal
 
 pub returns-then-free-eq0 : goal.returns-then-free-eq0

@@ -1,5 +1,5 @@
 use Rattle.std.proofs.Common.{arith}
-use Rattle.cm_dynamic.proofs.graphs.Graphs.{full_without, be_without}
+use Rattle.cm_dynamic.proofs.lemmas.graphs.Graphs.{full_without, be_without}
 use Rattle.cm_dynamic.proofs.create.by_room.Goals as goal
 
 pub returns-then-free-eq0 : goal.returns-then-free-eq0

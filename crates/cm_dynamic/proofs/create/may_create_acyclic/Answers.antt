@@ -3,12 +3,12 @@ use Rattle.std.proofs.lemmas.Result.{IfOk-weaker}
 use Rattle.cm_world.specs.Create.{dynamic_name, dynamic_children, dynamic_with, refused_create}
 use Rattle.cm_dynamic.specs.Replies.{AnswersCreate, AnswersGraph, RefusesChange}
 use Rattle.cm_dynamic.specs.declared.create.MayCreate.{MayCreate}
-use Rattle.cm_dynamic.proofs.graphs.Further.{created_name, created_names, further_acyclic}
-use Rattle.cm_dynamic.proofs.graphs.Leading.{onward_acyclic}
-use Rattle.cm_dynamic.proofs.children.Taking.{unused_name}
+use Rattle.cm_dynamic.proofs.lemmas.graphs.Further.{created_name, created_names, further_acyclic}
+use Rattle.cm_dynamic.proofs.lemmas.graphs.Leading.{onward_acyclic}
+use Rattle.cm_dynamic.proofs.lemmas.children.Taking.{unused_name}
 use Rattle.cm_dynamic.specs.Onward.{IsOnward}
 use Rattle.cm_names.specs.declared.child.ChildName.{ChildName}
-use Rattle.cm_dynamic.proofs.children.Refusing.{is_refused, is_resolved, is_by_graph}
+use Rattle.cm_dynamic.proofs.lemmas.children.Refusing.{is_refused, is_resolved, is_by_graph}
 use Rattle.cm_dynamic.proofs.create.may_create_acyclic.Goals as goal
 
 pub returns-in-Some : goal.returns-in-Some

@@ -1,7 +1,7 @@
 use Rattle.std.proofs.Common.{Option, IfOk, sym, ◌∙◌, subst}
 use Rattle.cm_world.specs.declared.reply.Reply.{Reply}
 use Rattle.cm_dynamic.specs.Replies.{RefusesChange}
-use Rattle.cm_dynamic.proofs.children.Refusing.{resolved}
+use Rattle.cm_dynamic.proofs.lemmas.children.Refusing.{resolved}
 use Rattle.cm_dynamic.proofs.create.refusal.Goals as goal
 
 pub returns-in-Some : goal.returns-in-Some

@@ -2,7 +2,7 @@ use Rattle.std.proofs.Common.{Option, IfOk, sym, ◌∙◌, ap, subst}
 use Rattle.cm_world.specs.declared.reply.Reply.{Reply}
 use Rattle.cm_world.specs.Create.{refused_name}
 use Rattle.cm_dynamic.specs.Replies.{RefusesChange}
-use Rattle.cm_dynamic.proofs.children.Refusing.{collected}
+use Rattle.cm_dynamic.proofs.lemmas.children.Refusing.{collected}
 use Rattle.cm_dynamic.proofs.create.refusal_by.Goals as goal
 
 pub returns-in_ok-name-in-Some : goal.returns-in_ok-name-in-Some

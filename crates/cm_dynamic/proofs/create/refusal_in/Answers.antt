@@ -1,7 +1,7 @@
 use Rattle.std.proofs.Common.{Option, IfOk, sym, ◌∙◌, subst}
 use Rattle.cm_world.specs.declared.reply.Reply.{Reply}
 use Rattle.cm_dynamic.specs.Replies.{RefusesChange}
-use Rattle.cm_dynamic.proofs.children.Refusing.{unnamed}
+use Rattle.cm_dynamic.proofs.lemmas.children.Refusing.{unnamed}
 use Rattle.cm_dynamic.proofs.create.refusal_in.Goals as goal
 
 pub returns-in-None : goal.returns-in-None

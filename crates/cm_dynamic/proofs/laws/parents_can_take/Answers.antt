@@ -1,4 +1,4 @@
-use Rattle.cm_dynamic.proofs.children.Taking.{can_take}
+use Rattle.cm_dynamic.proofs.lemmas.children.Taking.{can_take}
 use Rattle.cm_dynamic.proofs.laws.parents_can_take.Goals as goal
 
 pub returns : goal.returns

@@ -1,6 +1,6 @@
 use Rattle.std.proofs.Common.{sym, ◌∙◌, arith}
 use Rattle.cm_world.specs.Create.{is_child_there}
-use Rattle.cm_dynamic.proofs.children.Bad.{first_bad, none_more}
+use Rattle.cm_dynamic.proofs.lemmas.children.Bad.{first_bad, none_more}
 use Rattle.cm_dynamic.proofs.offers.bad_give.Goals as goal
 
 pub returns-in-Some : goal.returns-in-Some

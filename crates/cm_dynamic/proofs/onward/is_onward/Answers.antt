@@ -2,7 +2,7 @@ use Rattle.std.proofs.Common.{IsTrue, sym, ◌∙◌}
 use Rattle.std.specs.List.{list_all}
 use Rattle.std.specs.Cmp.{first_so, second_so}
 use Rattle.cm_dynamic.specs.Apart.{is_plain_offer, is_plain_use}
-use Rattle.cm_dynamic.proofs.graphs.Walking.{if_any}
+use Rattle.cm_dynamic.proofs.lemmas.graphs.Walking.{if_any}
 use Rattle.cm_dynamic.proofs.onward.is_onward.Goals as goal
 
 pub returns-clause-offers : goal.returns-clause-offers

@@ -1,5 +1,5 @@
 use Rattle.std.proofs.Common.{sym, ◌∙◌, true≢false}
-use Rattle.cm_dynamic.proofs.graphs.Unwanted.{unwanted_onward}
+use Rattle.cm_dynamic.proofs.lemmas.graphs.Unwanted.{unwanted_onward}
 use Rattle.cm_dynamic.proofs.onward.is_unwanted.Goals as goal
 
 pub returns-then-is_wanted : goal.returns-then-is_wanted

@@ -1,4 +1,4 @@
-use Rattle.cm_dynamic.proofs.graphs.Walking.{walking_first, walking_more, walking_ends}
+use Rattle.cm_dynamic.proofs.lemmas.graphs.Walking.{walking_first, walking_more, walking_ends}
 use Rattle.cm_dynamic.proofs.onward.leads_onward.Goals as goal
 
 pub loop-init : goal.loop-init

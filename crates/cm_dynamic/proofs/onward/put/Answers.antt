@@ -1,6 +1,6 @@
 use Rattle.std.proofs.Common.{sym, ◌∙◌, inl, inr}
 use Rattle.std.proofs.lemmas.Bool.{not-false}
-use Rattle.cm_dynamic.proofs.graphs.Walking.{put_grows, keeps_all}
+use Rattle.cm_dynamic.proofs.lemmas.graphs.Walking.{put_grows, keeps_all}
 use Rattle.cm_dynamic.proofs.onward.put.Goals as goal
 
 pub returns-then-not-branch-clause-grows : goal.returns-then-not-branch-clause-grows

@@ -1,5 +1,5 @@
 use Rattle.std.proofs.Common.{sym, ◌∙◌}
-use Rattle.cm_dynamic.proofs.graphs.Walking.{grows_none, past_none, past_some}
+use Rattle.cm_dynamic.proofs.lemmas.graphs.Walking.{grows_none, past_none, past_some}
 use Rattle.cm_dynamic.proofs.onward.put_child.Goals as goal
 
 pub returns-then-is_same-clause-grows : goal.returns-then-is_same-clause-grows

@@ -1,7 +1,7 @@
 use Rattle.std.proofs.Common.{IsTrue, sym, ◌∙◌}
 use Rattle.std.proofs.lemmas.Result.{IfOk-weaker}
 use Rattle.cm_dynamic.specs.Onward.{is_past, leads_past}
-use Rattle.cm_dynamic.proofs.graphs.Walking.{grows_none, past_unbound, past_child}
+use Rattle.cm_dynamic.proofs.lemmas.graphs.Walking.{grows_none, past_unbound, past_child}
 use Rattle.cm_dynamic.proofs.onward.put_give.Goals as goal
 
 pub returns-then-not-binds_created-clause-past : goal.returns-then-not-binds_created-clause-past

@@ -1,4 +1,4 @@
-use Rattle.cm_dynamic.proofs.graphs.Walking.{grows_on, putting_first, putting_more, putting_ends}
+use Rattle.cm_dynamic.proofs.lemmas.graphs.Walking.{grows_on, putting_first, putting_more, putting_ends}
 use Rattle.cm_dynamic.proofs.onward.put_gives.Goals as goal
 
 pub loop-give-init : goal.loop-give-init

@@ -1,5 +1,5 @@
 use Rattle.std.proofs.Common.{take}
-use Rattle.cm_dynamic.proofs.graphs.Walking.{IsPutting}
+use Rattle.cm_dynamic.proofs.lemmas.graphs.Walking.{IsPutting}
 use Rattle.cm_dynamic.proofs.onward.put_gives.Given as goal
 
 -- the offers so far lead past the new name

@@ -2,7 +2,7 @@ use Rattle.std.proofs.Common.{IsTrue, sym, ◌∙◌}
 use Rattle.std.specs.List.{list_all}
 use Rattle.std.proofs.lemmas.Result.{IfOk-weaker}
 use Rattle.cm_dynamic.specs.Onward.{leads_past, RowLeadsPast}
-use Rattle.cm_dynamic.proofs.graphs.Walking.{grows_none, row_none, row_some}
+use Rattle.cm_dynamic.proofs.lemmas.graphs.Walking.{grows_none, row_none, row_some}
 use Rattle.cm_dynamic.proofs.onward.put_row.Goals as goal
 
 pub returns-in-None-clause-past : goal.returns-in-None-clause-past

@@ -1,5 +1,5 @@
 use Rattle.std.proofs.Common.{sym, ◌∙◌}
-use Rattle.cm_dynamic.proofs.children.Following.{one_more, all_seen, fewer_ahead}
+use Rattle.cm_dynamic.proofs.lemmas.children.Following.{one_more, all_seen, fewer_ahead}
 use Rattle.cm_dynamic.proofs.siblings.siblings.Goals as goal
 
 pub children-smaller : goal.children-smaller

@@ -1,7 +1,7 @@
 use Rattle.std.proofs.Common.{◌≡◌, ◌++◌}
 use Rattle.cm_world.specs.Create.{dynamic_children}
 use Rattle.cm_dynamic.specs.Siblings.{siblings_behind}
-use Rattle.cm_dynamic.proofs.children.Following.{ahead}
+use Rattle.cm_dynamic.proofs.lemmas.children.Following.{ahead}
 use Rattle.cm_dynamic.proofs.siblings.siblings.Given as goal
 
 -- those so far and those behind them are all

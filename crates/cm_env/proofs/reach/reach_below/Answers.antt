@@ -4,8 +4,8 @@ use Rattle.cm_env.specs.declared.giver.GivenEnvironment.TheVariants.{Realm, In}
 use Rattle.cm_env.specs.Scope.{environment_of, environment_given}
 use Rattle.cm_env.specs.Giving.{told_given}
 use Rattle.cm_env.specs.Reach.{IsReachOf}
-use Rattle.cm_env.proofs.Steps.{stands, parent_lower}
-use Rattle.cm_env.proofs.Reaching.{given}
+use Rattle.cm_env.proofs.lemmas.Steps.{stands, parent_lower}
+use Rattle.cm_env.proofs.lemmas.Reaching.{given}
 use Rattle.cm_env.proofs.reach.reach_below.Goals as goal
 
 pub returns-in-Realm : goal.returns-in-Realm

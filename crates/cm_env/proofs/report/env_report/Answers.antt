@@ -2,8 +2,8 @@ use Rattle.std.proofs.Common.{[], ◌∷◌, ◌++◌, sym, ◌∙◌, ap, subst
 use Rattle.std.specs.Prelude.{All}
 use Rattle.std.proofs.lemmas.List.Elements.{All-nil}
 use Rattle.cm_env.specs.Reach.{LooksThere, incs}
-use Rattle.cm_env.proofs.Visiting.{fewer_ahead}
-use Rattle.cm_env.proofs.Telling.{told_first, told_more, incs_popped, all_popped, all_more}
+use Rattle.cm_env.proofs.lemmas.Visiting.{fewer_ahead}
+use Rattle.cm_env.proofs.lemmas.Telling.{told_first, told_more, incs_popped, all_popped, all_more}
 use Rattle.cm_env.proofs.report.env_report.Goals as goal
 
 pub next-init : goal.next-init

@@ -3,7 +3,7 @@ use Rattle.std.specs.Prelude.{All}
 use Rattle.cm_env.specs.Report.{env_report}
 use Rattle.cm_env.specs.ReportInside.{own_lines}
 use Rattle.cm_env.specs.Reach.{LooksThere, incs}
-use Rattle.cm_env.proofs.Visiting.{ahead_text, count_ahead}
+use Rattle.cm_env.proofs.lemmas.Visiting.{ahead_text, count_ahead}
 use Rattle.cm_env.proofs.report.env_report.Given as goal
 
 -- what has been told, and what is ahead

@@ -1,6 +1,6 @@
 use Rattle.std.proofs.Common.{◌++◌, reverse, append-nil, sym, ◌∙◌, ap}
 use Rattle.cm_env.specs.Reach.{incs}
-use Rattle.cm_env.proofs.Telling.{no_children, all_more}
+use Rattle.cm_env.proofs.lemmas.Telling.{no_children, all_more}
 use Rattle.cm_env.proofs.report.push_below.Goals as goal
 
 pub returns-in_default-clause-below : goal.returns-in_default-clause-below

@@ -1,4 +1,4 @@
-use Rattle.cm_env.proofs.Telling.{children_more, all_more}
+use Rattle.cm_env.proofs.lemmas.Telling.{children_more, all_more}
 use Rattle.cm_env.proofs.report.push_children.Goals as goal
 
 pub loop-inc-preserved : goal.loop-inc-preserved

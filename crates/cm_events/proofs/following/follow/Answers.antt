@@ -1,7 +1,7 @@
 use Rattle.std.proofs.Common.{◌∙◌, nat_eq, arith, sym}
 use Rattle.std.specs.HashSet.{contains}
-use Rattle.cm_events.proofs.Keeping.{nothing_yet}
-use Rattle.cm_events.proofs.Finding.{wanted_found, wanted_on, told_on}
+use Rattle.cm_events.proofs.lemmas.Keeping.{nothing_yet}
+use Rattle.cm_events.proofs.lemmas.Finding.{wanted_found, wanted_on, told_on}
 use Rattle.cm_events.proofs.following.follow.Goals as goal
 
 pub loop-index-init : goal.loop-index-init

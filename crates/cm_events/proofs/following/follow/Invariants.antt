@@ -1,6 +1,6 @@
 use Rattle.std.proofs.Common.{◌≡◌, ◌≤◌, ◌-◌, length}
 use Rattle.cm_events.specs.Stream.{stream}
-use Rattle.cm_events.proofs.Finding.{HasWanted}
+use Rattle.cm_events.proofs.lemmas.Finding.{HasWanted}
 use Rattle.cm_events.proofs.following.follow.Given as goal
 
 -- what the entries so far tell, and the works that those behind want

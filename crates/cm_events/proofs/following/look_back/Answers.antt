@@ -1,5 +1,5 @@
 use Rattle.std.proofs.Common.{◌+◌, ◌-◌, arith}
-use Rattle.cm_events.proofs.Seeking.{all_on, all_prefix, all_found}
+use Rattle.cm_events.proofs.lemmas.Seeking.{all_on, all_prefix, all_found}
 use Rattle.cm_events.proofs.following.look_back.Goals.{then-loop-back-test+else-not-is_empty, else-loop-back-test}
 use Rattle.cm_events.proofs.following.look_back.Goals as goal
 

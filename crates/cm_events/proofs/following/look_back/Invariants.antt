@@ -1,5 +1,5 @@
 use Rattle.std.proofs.Common.{◌≤◌}
-use Rattle.cm_events.proofs.Seeking.{StandAll}
+use Rattle.cm_events.proofs.lemmas.Seeking.{StandAll}
 use Rattle.cm_events.proofs.following.look_back.Given as goal
 
 abbrev pub invariant-loop-back : goal.invariant-loop-back

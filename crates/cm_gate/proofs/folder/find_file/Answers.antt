@@ -1,5 +1,5 @@
 use Rattle.std.proofs.Common.{rules}
-use Rattle.cm_gate.proofs.Looking.{finds_file}
+use Rattle.cm_gate.proofs.lemmas.Looking.{finds_file}
 use Rattle.cm_gate.proofs.folder.find_file.Goals as goal
 
 pub returns-in-Ok-Some-clause-finds : goal.returns-in-Ok-Some-clause-finds

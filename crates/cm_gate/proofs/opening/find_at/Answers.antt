@@ -1,4 +1,4 @@
-use Rattle.cm_gate.proofs.Looking.{finds_opened, finds_unopened}
+use Rattle.cm_gate.proofs.lemmas.Looking.{finds_opened, finds_unopened}
 use Rattle.cm_gate.proofs.opening.find_at.Goals as goal
 
 pub returns-in-Ok-clause-finds : goal.returns-in-Ok-clause-finds

@@ -1,4 +1,4 @@
-use Rattle.cm_gate.proofs.Looking.{finds_broken}
+use Rattle.cm_gate.proofs.lemmas.Looking.{finds_broken}
 use Rattle.cm_gate.proofs.opening.find_in.Goals as goal
 
 pub returns-in-Err-clause-finds : goal.returns-in-Err-clause-finds

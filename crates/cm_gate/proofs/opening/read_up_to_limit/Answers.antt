@@ -1,6 +1,6 @@
 -- What the prefix of a file is.
 use Rattle.std.proofs.Common.{ap}
-use Rattle.cm_gate.proofs.Prefixes.{prefix_is_kept}
+use Rattle.cm_gate.proofs.lemmas.Prefixes.{prefix_is_kept}
 use Rattle.cm_gate.proofs.opening.read_up_to_limit.Goals as goal
 
 -- what is cut behind the limit was read up to the limit

@@ -1,6 +1,6 @@
 use Rattle.std.proofs.Common.{None, arith}
 use Rattle.std.proofs.lemmas.Str.Pattern.{strip_prefix_char}
-use Rattle.cm_names.proofs.texts.MonikerParts.{unslashed}
+use Rattle.cm_names.proofs.lemmas.texts.MonikerParts.{unslashed}
 use Rattle.cm_gate.proofs.place.behind_slash.Goals as goal
 
 pub returns-in-None : goal.returns-in-None

@@ -1,7 +1,7 @@
 use Rattle.std.proofs.Common.{◌++◌, ◌∙◌, subst}
 use Rattle.std.specs.Io.KnownBytes.{Appends}
 use Rattle.cm_reply.specs.Journal.{entries_text}
-use Rattle.cm_keep.proofs.Passing.{all_handed}
+use Rattle.cm_keep.proofs.lemmas.Passing.{all_handed}
 use Rattle.cm_keep.proofs.keep.hand_journal.Goals as goal
 
 pub returns-clause-handed : goal.returns-clause-handed

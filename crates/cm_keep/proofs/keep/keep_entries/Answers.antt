@@ -1,7 +1,7 @@
 use Rattle.std.proofs.Common.{◌+◌, ◌++◌, ◌∙◌, string_bytes, drop, subst, sym}
 use Rattle.cm_reply.specs.Journal.{line, entry_text, entries_text}
 use Rattle.cm_keep.specs.Keeping.{Passes}
-use Rattle.cm_keep.proofs.Passing.{goes_on, next_line}
+use Rattle.cm_keep.proofs.lemmas.Passing.{goes_on, next_line}
 use Rattle.cm_keep.proofs.keep.keep_entries.Goals as goal
 
 pub loop-index-preserved : goal.loop-index-preserved

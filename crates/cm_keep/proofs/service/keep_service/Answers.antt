@@ -1,7 +1,7 @@
 use Rattle.std.proofs.Common.{ap, rules, ◌∙◌}
 use Rattle.cm_keep.specs.Files.{SaysWhyUnkept}
 use Rattle.cm_keep.specs.Asked.{FileNames}
-use Rattle.cm_keep.proofs.Asking.{as_told, at_err, failed_behind, if_err}
+use Rattle.cm_keep.proofs.lemmas.Asking.{as_told, at_err, failed_behind, if_err}
 use Rattle.cm_keep.proofs.service.keep_service.Goals.{in-Ok-keep_book, in-Err-Memory, in-Err-Failed}
 use Rattle.cm_keep.proofs.service.keep_service.Goals as goal
 

@@ -1,8 +1,8 @@
 use Rattle.std.proofs.Common.{rules, ◌≡◌, ◌==◌, ◌++◌, ◌∷◌, [], List, true, ap, refl, sym, subst, ◌∙◌, take}
 use Rattle.std.proofs.lemmas.List.{take_more, take_all}
 use Rattle.cm_command.specs.declared.script.Line.{Line}
-use Rattle.cm_manager.proofs.callers.CallerRuns.{caller_trans}
-use Rattle.cm_lanes.proofs.lines.Performing.{Performing, performing_none, performing_next, performing_all}
+use Rattle.cm_manager.proofs.lemmas.callers.CallerRuns.{caller_trans}
+use Rattle.cm_lanes.proofs.lemmas.lines.Performing.{Performing, performing_none, performing_next, performing_all}
 use Rattle.cm_lanes.proofs.lane.perform_lines.Goals as goal
 
 pub loop-line-init : goal.loop-line-init

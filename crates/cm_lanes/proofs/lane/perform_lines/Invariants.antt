@@ -1,6 +1,6 @@
 use Rattle.std.proofs.Common.{take}
 use Rattle.cm_manager.specs.Caller.{IsSameCaller}
-use Rattle.cm_lanes.proofs.lines.Performing.{Performing}
+use Rattle.cm_lanes.proofs.lemmas.lines.Performing.{Performing}
 use Rattle.cm_lanes.proofs.lane.perform_lines.Given as goal
 
 abbrev pub invariant-loop-line : goal.invariant-loop-line

@@ -1,5 +1,5 @@
 use Rattle.std.proofs.Common.{rules}
-use Rattle.cm_lanes.proofs.lines.Performing.{performed_with}
+use Rattle.cm_lanes.proofs.lemmas.lines.Performing.{performed_with}
 use Rattle.cm_lanes.proofs.lane.perform_own.Goals as goal
 
 pub returns : goal.returns

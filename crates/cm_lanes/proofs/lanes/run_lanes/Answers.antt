@@ -2,7 +2,7 @@ use Rattle.std.proofs.Common.{◌∙◌, List, sym, ap, map, Some, inl, flat_map
 use Rattle.cm_lanes.specs.Script.{AnsweredLine}
 use Rattle.cm_lanes.specs.ScriptInside.{said_of}
 use Rattle.cm_lanes.specs.Lanes.{RanOrNot}
-use Rattle.cm_lanes.proofs.ends.Ending.{are_lanes, told_each, ran_by, said_either, some_lane, back_sixteen, back_ended, back_gates}
+use Rattle.cm_lanes.proofs.lemmas.ends.Ending.{are_lanes, told_each, ran_by, said_either, some_lane, back_sixteen, back_ended, back_gates}
 use Rattle.cm_lanes.proofs.lanes.run_lanes.Goals as goal
 
 pub run_all-lanes-requires-clause-lanes : goal.run_all-lanes-requires-clause-lanes

@@ -1,6 +1,6 @@
 use Rattle.std.proofs.Common.{◌∷◌, List, refl, sym, subst, length, arith}
 use Rattle.cm_lanes.specs.Lane.{Lane, HasPass, MetAll}
-use Rattle.cm_lanes.proofs.phases.Rounds.{has_first, has_others, meets_twice, all_split}
+use Rattle.cm_lanes.proofs.lemmas.phases.Rounds.{has_first, has_others, meets_twice, all_split}
 use Rattle.cm_lanes.proofs.meeting.meet_all.Goals as goal
 
 pub meet_each-requires-2-clause-first : goal.meet_each-requires-2-clause-first

@@ -1,6 +1,6 @@
 use Rattle.std.proofs.Common.{◌∙◌, ◌<◌, refl, get_or, length, arith}
 use Rattle.std.proofs.lemmas.List.{get_or_default, length-set}
-use Rattle.cm_lanes.proofs.phases.Rounds.{meets_none, meets_more, meets_end, has_at}
+use Rattle.cm_lanes.proofs.lemmas.phases.Rounds.{meets_none, meets_more, meets_end, has_at}
 use Rattle.cm_lanes.proofs.meeting.meet_each.Goals as goal
 
 pub loop-other-init : goal.loop-other-init

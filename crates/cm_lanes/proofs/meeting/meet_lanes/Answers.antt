@@ -1,5 +1,5 @@
 use Rattle.std.proofs.Common.{sym, ◌∙◌}
-use Rattle.cm_lanes.proofs.phases.Rounds.{met_both}
+use Rattle.cm_lanes.proofs.lemmas.phases.Rounds.{met_both}
 use Rattle.cm_lanes.proofs.meeting.meet_lanes.Goals as goal
 
 pub returns : goal.returns

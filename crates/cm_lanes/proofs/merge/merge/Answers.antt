@@ -2,7 +2,7 @@ use Rattle.std.proofs.Common.{◌∙◌, ◌+◌, List, sym, ap, subst, drop}
 use Rattle.cm_command.specs.declared.script.Line.{Line}
 use Rattle.cm_lanes.specs.Phases.{told_to}
 use Rattle.cm_lanes.specs.Merge.{QueuesStartWith}
-use Rattle.cm_lanes.proofs.merged.Queues.{next_phase, phase_begins, phases_on, phases_end}
+use Rattle.cm_lanes.proofs.lemmas.merged.Queues.{next_phase, phase_begins, phases_on, phases_end}
 use Rattle.cm_lanes.proofs.merge.merge.Goals as goal
 
 pub merge_lines-requires-clause-begins : goal.merge_lines-requires-clause-begins

@@ -1,6 +1,6 @@
 use Rattle.std.proofs.Common.{◌≡◌, length}
 use Rattle.cm_lanes.specs.Merge.{QueuesHaveAll}
-use Rattle.cm_lanes.proofs.merged.Queues.{MovesAll}
+use Rattle.cm_lanes.proofs.lemmas.merged.Queues.{MovesAll}
 use Rattle.cm_lanes.proofs.merge.merge.Given as goal
 
 abbrev pub invariant-loop-phase : goal.invariant-loop-phase

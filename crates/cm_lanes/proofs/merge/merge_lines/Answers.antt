@@ -1,6 +1,6 @@
 use Rattle.std.proofs.Common.{◌∙◌, ◌<◌, sym, subst}
 use Rattle.cm_command.specs.declared.script.Line.{Line}
-use Rattle.cm_lanes.proofs.merged.Queues.{moves_more, moves_end, takes_one, next_answer, some_queue}
+use Rattle.cm_lanes.proofs.lemmas.merged.Queues.{moves_more, moves_end, takes_one, next_answer, some_queue}
 use Rattle.cm_lanes.proofs.merge.merge_lines.Goals as goal
 
 pub unreachable-requires : goal.unreachable-requires

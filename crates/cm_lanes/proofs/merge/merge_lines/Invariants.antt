@@ -1,6 +1,6 @@
 use Rattle.std.proofs.Common.{◌≡◌, length}
 use Rattle.cm_lanes.specs.Merge.{QueuesStartWith}
-use Rattle.cm_lanes.proofs.merged.Queues.{Moves}
+use Rattle.cm_lanes.proofs.lemmas.merged.Queues.{Moves}
 use Rattle.cm_lanes.proofs.merge.merge_lines.Given as goal
 
 abbrev pub invariant-loop-line : goal.invariant-loop-line

@@ -3,7 +3,7 @@ use Rattle.std.proofs.lemmas.List.{take_more}
 use Rattle.cm_command.specs.declared.script.Line.{Line}
 use Rattle.cm_lanes.specs.ScriptInside.{IsFit}
 use Rattle.cm_lanes.specs.Phases.{LanesRan, PassedAll}
-use Rattle.cm_lanes.proofs.phases.Advancing.{phase_more, ran_none, ready_met, ready_passed}
+use Rattle.cm_lanes.proofs.lemmas.phases.Advancing.{phase_more, ran_none, ready_met, ready_passed}
 use Rattle.cm_lanes.proofs.phase.perform_phases.Goals as goal
 
 pub loop-phase-init : goal.loop-phase-init

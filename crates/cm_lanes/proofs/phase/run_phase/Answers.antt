@@ -1,4 +1,4 @@
-use Rattle.cm_lanes.proofs.phases.Passing.{passed_all}
+use Rattle.cm_lanes.proofs.lemmas.phases.Passing.{passed_all}
 use Rattle.cm_lanes.proofs.phase.run_phase.Goals as goal
 
 pub returns : goal.returns

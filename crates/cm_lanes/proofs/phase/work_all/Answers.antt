@@ -2,11 +2,11 @@ use denote.Exit.{no}
 use denote.Param.Send.{sendable, param_sync, arg_sync, shr_sync, shr_slice_sync}
 use Rattle.std.proofs.Crossing.{crosses}
 use Rattle.std.proofs.alloc.Global.TheSendSync as global
-use Rattle.cm_command.proofs.Crossing.{line_sync}
-use Rattle.cm_lanes.proofs.Captures.{four_sync}
-use Rattle.cm_lanes.proofs.Crossing.{said_send}
+use Rattle.cm_command.proofs.lemmas.Crossing.{line_sync}
+use Rattle.cm_lanes.proofs.lemmas.Captures.{four_sync}
+use Rattle.cm_lanes.proofs.lemmas.Crossing.{said_send}
 use Rattle.cm_lanes.proofs.phase.work_all.Goals as goal
-use Rattle.cm_manager.proofs.Crossing.{manager_sync}
+use Rattle.cm_manager.proofs.lemmas.Crossing.{manager_sync}
 use Rattle.cm_manager.proofs.desks.Desk.TheSendSync as desk
 
 pub for_each_mut-requires-send-T : goal.for_each_mut-requires-send-T

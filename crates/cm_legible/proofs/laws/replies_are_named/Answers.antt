@@ -1,4 +1,4 @@
-use Rattle.cm_legible.proofs.Replies.{replies_are_named}
+use Rattle.cm_legible.proofs.lemmas.Replies.{replies_are_named}
 use Rattle.cm_legible.proofs.laws.replies_are_named.Goals as goal
 
 pub returns : goal.returns

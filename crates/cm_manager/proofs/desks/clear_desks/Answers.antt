@@ -1,6 +1,6 @@
 use Rattle.std.proofs.Common.{subst, sym, List, ◌∙◌}
 use Rattle.cm_manager.specs.declared.desks.Desk.{Desk}
-use Rattle.cm_manager.proofs.desked.Clearing.{Clearing, clearing_none, clearing_more, clearing_all}
+use Rattle.cm_manager.proofs.lemmas.desked.Clearing.{Clearing, clearing_none, clearing_more, clearing_all}
 use Rattle.cm_manager.proofs.desks.clear_desks.Goals as goal
 
 pub loop-desk-init : goal.loop-desk-init

@@ -1,4 +1,4 @@
-use Rattle.cm_manager.proofs.desked.Clearing.{Clearing}
+use Rattle.cm_manager.proofs.lemmas.desked.Clearing.{Clearing}
 use Rattle.cm_manager.proofs.desks.clear_desks.Given as goal
 
 abbrev pub invariant-loop-desk : goal.invariant-loop-desk

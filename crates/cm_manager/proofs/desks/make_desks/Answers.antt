@@ -2,7 +2,7 @@ use Rattle.std.proofs.Common.{◌≡◌, All, Some, ap, false, map, refl, subst,
 use Rattle.std.proofs.lemmas.List.{length-map}
 use Rattle.std.proofs.lemmas.List.Elements.{All-push}
 use Rattle.cm_manager.specs.declared.desks.Desk.{Desk}
-use Rattle.cm_manager.proofs.desked.Moving.{all_moved, fits_still, moved_as, shorter}
+use Rattle.cm_manager.proofs.lemmas.desked.Moving.{all_moved, fits_still, moved_as, shorter}
 use Rattle.cm_manager.proofs.desks.make_desks.Goals as goal
 
 pub loop-pass-preserved : goal.loop-pass-preserved

@@ -1,4 +1,4 @@
-use Rattle.cm_manager.proofs.shutdowns.Answering.{shutdowns_leave_shut, destructions_remove}
+use Rattle.cm_manager.proofs.lemmas.shutdowns.Answering.{shutdowns_leave_shut, destructions_remove}
 use Rattle.cm_manager.proofs.laws.answers_hold.Goals as goal
 
 pub returns : goal.returns

@@ -1,7 +1,7 @@
 use Rattle.std.proofs.Common.{◌≡◌}
 use Rattle.cm_world.specs.declared.action.ActKind.TheVariants as kind
 use Rattle.cm_manager.specs.Runs.{RunsAction}
-use Rattle.cm_manager.proofs.starts.Launches.{children_start, ended_acts, joined_acts, not_started, unfollowed}
+use Rattle.cm_manager.proofs.lemmas.starts.Launches.{children_start, ended_acts, joined_acts, not_started, unfollowed}
 use Rattle.cm_manager.proofs.starting.launch_of.Goals as goal
 
 pub returns-in-Started : goal.returns-in-Started

@@ -1,5 +1,5 @@
-use Rattle.cm_manager.proofs.onward.BegunOnce.{begun_once}
-use Rattle.cm_manager.proofs.onward.Streaming.{streams_told}
+use Rattle.cm_manager.proofs.lemmas.onward.BegunOnce.{begun_once}
+use Rattle.cm_manager.proofs.lemmas.onward.Streaming.{streams_told}
 use Rattle.cm_manager.proofs.streaming.stream_at.Goals as goal
 
 pub returns-in-Tailed-clause-streams : goal.returns-in-Tailed-clause-streams

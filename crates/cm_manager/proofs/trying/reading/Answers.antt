@@ -1,5 +1,5 @@
 use Rattle.std.proofs.Common.{refl}
-use Rattle.cm_manager.proofs.onward.Readings.{needs_nothing}
+use Rattle.cm_manager.proofs.lemmas.onward.Readings.{needs_nothing}
 use Rattle.cm_manager.proofs.trying.reading.Goals as goal
 
 pub returns-in_default : goal.returns-in_default

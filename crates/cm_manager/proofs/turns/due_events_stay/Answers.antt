@@ -1,4 +1,4 @@
-use Rattle.cm_manager.proofs.left.Due.{due_stays, due_is_open}
+use Rattle.cm_manager.proofs.lemmas.left.Due.{due_stays, due_is_open}
 use Rattle.cm_manager.proofs.turns.due_events_stay.Goals as goal
 
 pub returns : goal.returns

@@ -1,4 +1,4 @@
-use Rattle.cm_manager.proofs.calling.Doings.{did_stop, halted_for}
+use Rattle.cm_manager.proofs.lemmas.calling.Doings.{did_stop, halted_for}
 use Rattle.cm_manager.proofs.work.halt.Goals as goal
 
 pub returns-in-Some-clause-did : goal.returns-in-Some-clause-did

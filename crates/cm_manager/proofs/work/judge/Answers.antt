@@ -1,5 +1,5 @@
 use Rattle.std.proofs.Common.{◌∙◌}
-use Rattle.cm_manager.proofs.calling.Doings.{judged_valid, judged_unread, judged_invalid}
+use Rattle.cm_manager.proofs.lemmas.calling.Doings.{judged_valid, judged_unread, judged_invalid}
 use Rattle.cm_manager.proofs.work.judge.Goals as goal
 
 pub returns-in-Ok-validate-clause-judged : goal.returns-in-Ok-validate-clause-judged

@@ -1,4 +1,4 @@
-use Rattle.cm_manager.proofs.calling.Doings.{did_start, launched_for}
+use Rattle.cm_manager.proofs.lemmas.calling.Doings.{did_start, launched_for}
 use Rattle.cm_manager.proofs.work.launch.Goals as goal
 
 pub returns-in-Some-clause-did : goal.returns-in-Some-clause-did

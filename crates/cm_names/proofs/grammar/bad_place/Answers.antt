@@ -1,7 +1,7 @@
 use Rattle.std.proofs.Common.{◌≡◌, ◌+◌, ◌<◌, false, true≢false, sym, arith, rules}
 use Rattle.cm_names.specs.MonikerStates.{may_end}
-use Rattle.cm_names.proofs.prefixes.Prefixes.{not_whole}
-use Rattle.cm_names.proofs.prefixes.MonikerPrefixes.{stuck, full, further, unended, not_ended, ended}
+use Rattle.cm_names.proofs.lemmas.prefixes.Prefixes.{not_whole}
+use Rattle.cm_names.proofs.lemmas.prefixes.MonikerPrefixes.{stuck, full, further, unended, not_ended, ended}
 use Rattle.cm_names.proofs.grammar.bad_place.Goals as goal
 use Rattle.cm_names.proofs.grammar.bad_place.Goals.{else-i-eq-MAX_PATH_BYTES-via-then-i-eq-MAX_PATH_BYTES+else-not-may_end, else-i-eq-MAX_PATH_BYTES-via-else-i-eq-MAX_PATH_BYTES}
 

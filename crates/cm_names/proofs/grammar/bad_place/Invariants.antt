@@ -1,4 +1,4 @@
-use Rattle.cm_names.proofs.prefixes.MonikerPrefixes.{IsUnderWay}
+use Rattle.cm_names.proofs.lemmas.prefixes.MonikerPrefixes.{IsUnderWay}
 use Rattle.cm_names.proofs.grammar.bad_place.Given as goal
 
 -- the bytes so far lead to the place

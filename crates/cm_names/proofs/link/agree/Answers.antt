@@ -5,7 +5,7 @@ use Rattle.std.proofs.lemmas.List.{length-take-le}
 use Rattle.std.specs.Cmp.Lexicographic.{pointwise}
 use Rattle.cm_names.specs.Chains.{names_of}
 use Rattle.cm_names.specs.ChainsInside.{is_same}
-use Rattle.cm_names.proofs.Ends.{pointwise-below, one-more}
+use Rattle.cm_names.proofs.lemmas.Ends.{pointwise-below, one-more}
 use Rattle.cm_names.proofs.link.agree.Goals as goal
 
 pub returns-then-ne : goal.returns-then-ne

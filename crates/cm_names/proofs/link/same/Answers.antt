@@ -4,7 +4,7 @@ use Rattle.std.proofs.lemmas.Bool.{not-true, not-false}
 use Rattle.std.specs.Cmp.Lexicographic.{pointwise}
 use Rattle.cm_names.specs.Chains.{names_of}
 use Rattle.cm_names.specs.ChainsInside.{is_same}
-use Rattle.cm_names.proofs.Ends.{pointwise-below, shorter}
+use Rattle.cm_names.proofs.lemmas.Ends.{pointwise-below, shorter}
 use Rattle.cm_names.proofs.link.same.Goals as goal
 
 pub returns-then-ne : goal.returns-then-ne

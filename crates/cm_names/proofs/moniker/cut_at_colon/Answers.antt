@@ -1,4 +1,4 @@
-use Rattle.cm_names.proofs.texts.MonikerParts.{cut_is}
+use Rattle.cm_names.proofs.lemmas.texts.MonikerParts.{cut_is}
 use Rattle.cm_names.proofs.moniker.cut_at_colon.Goals as goal
 
 pub returns : goal.returns

@@ -1,6 +1,6 @@
 use Rattle.std.proofs.Common.{sym, ◌∙◌}
 use Rattle.std.proofs.lemmas.Option.{none-some}
-use Rattle.cm_names.proofs.texts.NameLemmas.{name_faultless}
+use Rattle.cm_names.proofs.lemmas.texts.Name.{name_faultless}
 use Rattle.cm_names.proofs.moniker.read_name.Goals as goal
 
 pub unreachable-requires : goal.unreachable-requires

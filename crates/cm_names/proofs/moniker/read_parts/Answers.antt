@@ -7,7 +7,7 @@ use Rattle.std.specs.Str.Iter.{split_text, split_has_more, split_pattern}
 use Rattle.cm_names.specs.Moniker.{IsChildName}
 use Rattle.cm_names.specs.MonikerInside.{IsChildText}
 use Rattle.cm_names.specs.Path.{parts_of}
-use Rattle.cm_names.proofs.texts.MonikerParts.{texts_more}
+use Rattle.cm_names.proofs.lemmas.texts.MonikerParts.{texts_more}
 use Rattle.cm_names.proofs.moniker.read_parts.Goals as goal
 
 pub read_child-requires : goal.read_child-requires

@@ -1,6 +1,6 @@
 use Rattle.std.proofs.Common.{◌∙◌, rules, subst, sym}
 use Rattle.cm_names.specs.Moniker.{IsMonikerTextOf}
-use Rattle.cm_names.proofs.texts.MonikerParts.{pieces, made}
+use Rattle.cm_names.proofs.lemmas.texts.MonikerParts.{pieces, made}
 use Rattle.cm_names.proofs.moniker.read_whole.Goals as goal
 
 pub read_parts-requires : goal.read_parts-requires

@@ -1,4 +1,4 @@
-use Rattle.cm_names.proofs.texts.MonikerParts.{reads_one_way_lem}
+use Rattle.cm_names.proofs.lemmas.texts.MonikerParts.{reads_one_way_lem}
 use Rattle.cm_names.proofs.moniker.reads_one_way.Goals as goal
 
 pub returns : goal.returns

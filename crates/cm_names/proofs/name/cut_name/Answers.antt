@@ -1,6 +1,6 @@
 use Rattle.std.proofs.Common.{◌+◌, ◌-◌, ◌++◌, length, take, drop, arith, sym, subst, ap, ◌∙◌}
 use Rattle.cm_names.specs.Name.{IsName}
-use Rattle.cm_names.proofs.texts.NameBytes.{prefix_name, cut_prefix}
+use Rattle.cm_names.proofs.lemmas.texts.NameBytes.{prefix_name, cut_prefix}
 use Rattle.cm_names.proofs.name.cut_name.Goals as goal
 
 pub name_text-requires : goal.name_text-requires

@@ -1,4 +1,4 @@
-use Rattle.cm_names.proofs.texts.NameLemmas.{faultless_name, name_faultless}
+use Rattle.cm_names.proofs.lemmas.texts.Name.{faultless_name, name_faultless}
 use Rattle.cm_names.proofs.name.faultless_texts_are_names.Goals as goal
 
 pub returns : goal.returns

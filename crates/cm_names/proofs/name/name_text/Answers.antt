@@ -1,4 +1,4 @@
-use Rattle.cm_names.proofs.texts.NameBytes.{name_utf8}
+use Rattle.cm_names.proofs.lemmas.texts.NameBytes.{name_utf8}
 use Rattle.cm_names.proofs.name.name_text.Goals as goal
 
 pub from_utf8_unchecked-requires : goal.from_utf8_unchecked-requires

@@ -1,6 +1,6 @@
 use Rattle.std.proofs.Common.{rules, sym, ◌∙◌}
 use Rattle.std.proofs.lemmas.List.{take_rest}
-use Rattle.cm_names.proofs.texts.PathLemmas.{faulty_part, good_part, last_part, behind}
+use Rattle.cm_names.proofs.lemmas.texts.Path.{faulty_part, good_part, last_part, behind}
 use Rattle.cm_names.proofs.path.parts_fault.Goals as goal
 
 pub returns-in-Some-part_fault : goal.returns-in-Some-part_fault

@@ -1,5 +1,5 @@
 use Rattle.std.proofs.Common.{rules, ◌≡◌, ◌∙◌, ◌<◌, ◌++◌, [], ◌∷◌, arith}
-use Rattle.cm_names.proofs.sets.JoinLemmas.{joined_more}
+use Rattle.cm_names.proofs.lemmas.sets.Join.{joined_more}
 use Rattle.cm_names.proofs.rights.joined.Goals as goal
 use Rattle.cm_names.proofs.rights.joined.Goals.{then-i-gt0+in_ok-push_str, else-i-gt0}
 

@@ -2,7 +2,7 @@ use Rattle.std.proofs.Common.{◌≡◌}
 use Rattle.std.specs.Option.{option_or}
 use Rattle.cm_world.specs.Stopping as spec
 use Rattle.cm_trees.proofs.trees.Tops.{outermost_from}
-use Rattle.cm_walk.proofs.ways.Monikers.{height}
+use Rattle.cm_walk.proofs.lemmas.ways.Monikers.{height}
 use Rattle.cm_order.proofs.above.outermost.Given as goal
 
 -- what is found on the rest of the way up goes before what was found so far

@@ -1,9 +1,9 @@
 use Rattle.std.proofs.Common.{rules, ◌≡◌, None, refl, sym, ◌∙◌, subst}
 use Rattle.cm_world.specs.RowsInside.{child_behind}
 use Rattle.cm_trees.proofs.levels.Kids.{next_kid, no_kids}
-use Rattle.cm_order.proofs.levels.Glancing.{shut_below}
-use Rattle.cm_order.proofs.searches.Turns.{IsLooking, alone, under, own_open, looking_first, looking_on, looking_found}
-use Rattle.cm_order.proofs.searches.Weights.{falls}
+use Rattle.cm_order.proofs.lemmas.levels.Glancing.{shut_below}
+use Rattle.cm_order.proofs.lemmas.searches.Turns.{IsLooking, alone, under, own_open, looking_first, looking_on, looking_found}
+use Rattle.cm_order.proofs.lemmas.searches.Weights.{falls}
 use Rattle.cm_order.proofs.below.all_shut.Goals as goal
 
 pub returns-then-is_unshut : goal.returns-then-is_unshut

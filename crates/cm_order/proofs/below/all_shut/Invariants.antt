@@ -1,5 +1,5 @@
-use Rattle.cm_order.proofs.searches.Turns.{IsLooking}
-use Rattle.cm_order.proofs.searches.Weights.{weigh}
+use Rattle.cm_order.proofs.lemmas.searches.Turns.{IsLooking}
+use Rattle.cm_order.proofs.lemmas.searches.Weights.{weigh}
 use Rattle.cm_order.proofs.below.all_shut.Given as goal
 
 -- what is left to look at decides

@@ -1,5 +1,5 @@
 use Rattle.cm_order.specs.Glances.{is_given_from}
-use Rattle.cm_order.proofs.levels.Binding.{any_at}
+use Rattle.cm_order.proofs.lemmas.levels.Binding.{any_at}
 use Rattle.cm_order.proofs.binding.are_given.Goals as goal
 
 pub returns-then-comes_from : goal.returns-then-comes_from

@@ -1,5 +1,5 @@
 use Rattle.cm_order.specs.Glances.{is_offered_from}
-use Rattle.cm_order.proofs.levels.Binding.{any_at}
+use Rattle.cm_order.proofs.lemmas.levels.Binding.{any_at}
 use Rattle.cm_order.proofs.binding.are_offered.Goals as goal
 
 pub returns-then-is_to : goal.returns-then-is_to

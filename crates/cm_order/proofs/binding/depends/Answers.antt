@@ -1,7 +1,7 @@
 use Rattle.std.proofs.Common.{IsTrue, subst}
 use Rattle.std.specs.List.{list_any}
 use Rattle.cm_order.specs.Glances.{is_given_from, is_offered_from}
-use Rattle.cm_order.proofs.levels.Binding.{strong_given, strong_offered}
+use Rattle.cm_order.proofs.lemmas.levels.Binding.{strong_given, strong_offered}
 use Rattle.cm_order.proofs.binding.depends.Goals as goal
 
 pub returns-then-are_given : goal.returns-then-are_given

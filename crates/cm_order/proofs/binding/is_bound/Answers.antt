@@ -1,5 +1,5 @@
 use Rattle.std.proofs.Common.{sym, ◌∙◌}
-use Rattle.cm_order.proofs.levels.Binding.{bound_by}
+use Rattle.cm_order.proofs.lemmas.levels.Binding.{bound_by}
 use Rattle.cm_order.proofs.binding.is_bound.Goals as goal
 
 pub depends-requires-clause-client : goal.depends-requires-clause-client

@@ -1,7 +1,7 @@
 use Rattle.std.proofs.Common.{true≢false, sym, ◌∙◌}
 use Rattle.cm_facts.proofs.Booleans.{false_iff}
 use Rattle.cm_trees.proofs.trees.Trees.{kid_higher}
-use Rattle.cm_order.proofs.searches.Choosing.{own_leads, way_first, goes_further, no_end, way_further, next_leads}
+use Rattle.cm_order.proofs.lemmas.searches.Choosing.{own_leads, way_first, goes_further, no_end, way_further, next_leads}
 use Rattle.cm_order.proofs.choosing.is_free_up_to.Goals as goal
 
 pub leads_up-requires-clause-kid : goal.leads_up-requires-clause-kid

@@ -1,7 +1,7 @@
 use Rattle.std.specs.Prelude.{IfSome}
 use Rattle.cm_order.specs.Levels.{IsLevel}
 use Rattle.cm_order.specs.Plans.{AreKnown}
-use Rattle.cm_order.proofs.searches.Choosing.{IsWayUp}
+use Rattle.cm_order.proofs.lemmas.searches.Choosing.{IsWayUp}
 use Rattle.cm_order.proofs.choosing.is_free_up_to.Given as goal
 
 -- all levels from this row down are free, and what is kept holds

@@ -1,5 +1,5 @@
 use Rattle.std.proofs.Common.{not, ap, ◌∙◌}
-use Rattle.cm_order.proofs.searches.Choosing.{target_told}
+use Rattle.cm_order.proofs.lemmas.searches.Choosing.{target_told}
 use Rattle.cm_order.proofs.choosing.may_close.Goals as goal
 
 pub returns : goal.returns

@@ -1,4 +1,4 @@
-use Rattle.cm_order.proofs.searches.Reaching.{plan_none}
+use Rattle.cm_order.proofs.lemmas.searches.Reaching.{plan_none}
 use Rattle.cm_order.proofs.choosing.may_pick.Goals as goal
 
 pub may_pick_with-requires-clause-plan : goal.may_pick_with-requires-clause-plan

@@ -6,7 +6,7 @@ use Rattle.cm_facts.proofs.Booleans.{false_iff}
 use Rattle.cm_world.specs.Rows.{is_below}
 use Rattle.cm_order.specs.Picking.{MayBePicked}
 use Rattle.cm_order.specs.Ways.{is_idle, IsFreeUpTo}
-use Rattle.cm_order.proofs.searches.Choosing.{none_picked, picked_is, chosen_if}
+use Rattle.cm_order.proofs.lemmas.searches.Choosing.{none_picked, picked_is, chosen_if}
 use Rattle.cm_order.proofs.choosing.may_pick_with.Goals as goal
 
 pub returns-in_default-clause-may : goal.returns-in_default-clause-may

@@ -1,5 +1,5 @@
 use Rattle.std.proofs.Common.{refl}
-use Rattle.cm_order.proofs.levels.Clearing.{known_more}
+use Rattle.cm_order.proofs.lemmas.levels.Clearing.{known_more}
 use Rattle.cm_order.proofs.clearing.clear.Goals as goal
 
 pub returns : goal.returns

@@ -1,6 +1,6 @@
 use Rattle.std.proofs.Common.{Some, ◌∙◌, ap}
 use Rattle.std.specs.Cmp.{unsigned_Decides}
-use Rattle.cm_order.proofs.levels.Clearing.{kid_told}
+use Rattle.cm_order.proofs.lemmas.levels.Clearing.{kid_told}
 use Rattle.cm_order.proofs.clearing.is_child.Goals as goal
 
 pub returns-in-Some-parent : goal.returns-in-Some-parent

@@ -1,4 +1,4 @@
-use Rattle.cm_order.proofs.levels.Glancing.{free_unlisted}
+use Rattle.cm_order.proofs.lemmas.levels.Glancing.{free_unlisted}
 use Rattle.cm_order.proofs.clearing.is_free_child.Goals as goal
 
 pub returns : goal.returns

@@ -1,4 +1,4 @@
-use Rattle.cm_order.proofs.levels.Glancing.{free_unlisted}
+use Rattle.cm_order.proofs.lemmas.levels.Glancing.{free_unlisted}
 use Rattle.cm_order.proofs.clearing.is_open_child.Goals as goal
 
 pub settle-requires-clause-free : goal.settle-requires-clause-free

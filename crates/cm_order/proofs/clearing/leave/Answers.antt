@@ -2,7 +2,7 @@ use Rattle.std.proofs.Common.{◌∙◌}
 use Rattle.std.proofs.lemmas.Result.{on_ok_weaker}
 use Rattle.cm_order.specs.Glances.{IsCleared, IsFreeKid, KnowsDependents}
 use Rattle.cm_trees.proofs.levels.Shut.{kid_shut}
-use Rattle.cm_order.proofs.levels.Clearing.{known_same}
+use Rattle.cm_order.proofs.lemmas.levels.Clearing.{known_same}
 use Rattle.cm_order.proofs.clearing.leave.Goals as goal
 
 pub returns-then-not-waits : goal.returns-then-not-waits

@@ -4,7 +4,7 @@ use Rattle.std.specs.Option.{option_copied_mut, is_some}
 use Rattle.std.specs.Ordering.{nat_cmp}
 use Rattle.std.specs.BTreeMap.{get}
 use Rattle.cm_order.specs.Glances.{is_in_list}
-use Rattle.cm_order.proofs.levels.Clearing.{known_left}
+use Rattle.cm_order.proofs.lemmas.levels.Clearing.{known_left}
 use Rattle.cm_order.proofs.clearing.release.Goals as goal
 
 pub returns-then-is_empty : goal.returns-then-is_empty

@@ -1,4 +1,4 @@
-use Rattle.cm_order.proofs.levels.Owning.{uses_by}
+use Rattle.cm_order.proofs.lemmas.levels.Owning.{uses_by}
 use Rattle.cm_order.proofs.clearing.uses_child.Goals as goal
 
 pub returns-in-Some : goal.returns-in-Some

@@ -1,6 +1,6 @@
 use Rattle.std.proofs.Common.{◌≡◌, IsTrue, sym, ◌∙◌, subst, inl, inr, ◌⊎◌, append-nil}
 use Rattle.cm_order.specs.Glances.{is_in_list, is_in_set}
-use Rattle.cm_order.proofs.levels.Lists.{listed_parts}
+use Rattle.cm_order.proofs.lemmas.levels.Lists.{listed_parts}
 use Rattle.cm_order.proofs.clearing.without_cleared.Goals as goal
 
 pub loop-last-init : goal.loop-last-init

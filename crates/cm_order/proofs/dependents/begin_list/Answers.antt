@@ -1,9 +1,9 @@
 use Rattle.std.proofs.Common.{◌≡◌, [], ◌∷◌, ◌++◌, IsTrue, sym, ◌∙◌, ap, subst}
 use Rattle.std.specs.Prelude.{unwrap_or}
 use Rattle.std.specs.Ordering.{nat_cmp}
-use Rattle.cm_decl.proofs.Sameness.{never}
+use Rattle.cm_decl.proofs.lemmas.Sameness.{never}
 use Rattle.cm_order.specs.Glances.{is_in_list}
-use Rattle.cm_order.proofs.levels.Lists.{listed_last, same_number, lists_grow}
+use Rattle.cm_order.proofs.lemmas.levels.Lists.{listed_last, same_number, lists_grow}
 use Rattle.cm_order.proofs.dependents.begin_list.Goals as goal
 
 pub returns : goal.returns

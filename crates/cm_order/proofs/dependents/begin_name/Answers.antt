@@ -3,9 +3,9 @@ use Rattle.std.specs.Prelude.{unwrap_or}
 use Rattle.std.specs.Ordering.{nat_cmp}
 use Rattle.std.specs.Cmp.Lexicographic.{slice_cmp}
 use Rattle.std.specs.BTreeMap.{get, is_at}
-use Rattle.cm_decl.proofs.Sameness.{never}
+use Rattle.cm_decl.proofs.lemmas.Sameness.{never}
 use Rattle.cm_order.specs.Glances.{is_in_list, is_offered}
-use Rattle.cm_order.proofs.levels.Lists.{listed_last, same_name, lists_grow}
+use Rattle.cm_order.proofs.lemmas.levels.Lists.{listed_last, same_name, lists_grow}
 use Rattle.cm_order.proofs.dependents.begin_name.Goals as goal
 
 pub returns : goal.returns

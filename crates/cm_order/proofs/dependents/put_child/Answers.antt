@@ -1,8 +1,8 @@
 use Rattle.std.proofs.Common.{◌∙◌, ap, subst}
 use Rattle.std.specs.Prelude.{option_map, option_and_then}
-use Rattle.cm_world.proofs.trees.Finding.{none_some}
+use Rattle.cm_world.proofs.lemmas.trees.Finding.{none_some}
 use Rattle.cm_order.specs.Glances.{HasSources, is_client, is_given_from}
-use Rattle.cm_order.proofs.names.Sources.{gives_same}
+use Rattle.cm_order.proofs.lemmas.names.Sources.{gives_same}
 use Rattle.cm_order.proofs.dependents.put_child.Goals as goal
 
 pub returns-in_default : goal.returns-in_default

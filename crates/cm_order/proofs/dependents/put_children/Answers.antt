@@ -1,6 +1,6 @@
 use Rattle.std.proofs.Common.{sym, ◌∙◌}
-use Rattle.cm_order.proofs.levels.Gathering.{room_less}
-use Rattle.cm_order.proofs.names.Sources.{covering_first, covering_more, covering_ends}
+use Rattle.cm_order.proofs.lemmas.levels.Gathering.{room_less}
+use Rattle.cm_order.proofs.lemmas.names.Sources.{covering_first, covering_more, covering_ends}
 use Rattle.cm_order.proofs.dependents.put_children.Goals as goal
 
 pub loop-child-init : goal.loop-child-init

@@ -1,5 +1,5 @@
-use Rattle.cm_order.proofs.levels.Gathering.{room}
-use Rattle.cm_order.proofs.names.Sources.{IsCovering}
+use Rattle.cm_order.proofs.lemmas.levels.Gathering.{room}
+use Rattle.cm_order.proofs.lemmas.names.Sources.{IsCovering}
 use Rattle.cm_order.proofs.dependents.put_children.Given as goal
 
 abbrev pub invariant-loop-child : goal.invariant-loop-child

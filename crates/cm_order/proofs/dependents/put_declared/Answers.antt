@@ -1,6 +1,6 @@
 use Rattle.std.proofs.Common.{subst}
 use Rattle.cm_order.specs.Glances.{HasOffered, HasSources, is_client, is_used_from}
-use Rattle.cm_order.proofs.names.Sources.{all_put}
+use Rattle.cm_order.proofs.lemmas.names.Sources.{all_put}
 use Rattle.cm_order.proofs.dependents.put_declared.Goals as goal
 
 pub returns : goal.returns

@@ -5,7 +5,7 @@ use Rattle.std.specs.Ordering.{nat_cmp}
 use Rattle.std.specs.BTreeMap.{get}
 use Rattle.std.proofs.lemmas.Result.{on_ok_weaker}
 use Rattle.cm_order.specs.Glances.{is_in_list}
-use Rattle.cm_order.proofs.levels.Lists.{listed_more, listed_last, same_number, lists_grow}
+use Rattle.cm_order.proofs.lemmas.levels.Lists.{listed_more, listed_last, same_number, lists_grow}
 use Rattle.cm_order.proofs.dependents.put_in.Goals as goal
 
 pub returns-in-Some-clause-here : goal.returns-in-Some-clause-here

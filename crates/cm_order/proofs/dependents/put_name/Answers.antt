@@ -6,7 +6,7 @@ use Rattle.std.specs.Cmp.Lexicographic.{slice_cmp}
 use Rattle.std.specs.BTreeMap.{get}
 use Rattle.std.proofs.lemmas.Result.{on_ok_weaker}
 use Rattle.cm_order.specs.Glances.{is_in_list}
-use Rattle.cm_order.proofs.levels.Lists.{listed_more, listed_last, same_name, lists_grow}
+use Rattle.cm_order.proofs.lemmas.levels.Lists.{listed_more, listed_last, same_name, lists_grow}
 use Rattle.cm_order.proofs.dependents.put_name.Goals as goal
 
 pub returns-in-Some-clause-here : goal.returns-in-Some-clause-here

@@ -1,8 +1,8 @@
 use Rattle.std.proofs.Common.{[], IsTrue, sym, ◌∙◌, ap, subst}
 use Rattle.std.specs.Prelude.{unwrap_or}
 use Rattle.cm_decl.specs.Graph.{target_of}
-use Rattle.cm_decl.proofs.Sameness.{never}
-use Rattle.cm_world.proofs.trees.Finding.{none_some, some_same}
+use Rattle.cm_decl.proofs.lemmas.Sameness.{never}
+use Rattle.cm_world.proofs.lemmas.trees.Finding.{none_some, some_same}
 use Rattle.cm_order.specs.Glances.{is_in_list, is_offered}
 use Rattle.cm_order.proofs.dependents.put_named.Goals as goal
 

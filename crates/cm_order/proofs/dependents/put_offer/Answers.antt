@@ -2,7 +2,7 @@ use Rattle.std.proofs.Common.{sym, ◌∙◌, subst, IsTrue}
 use Rattle.std.specs.Str.{bytes_eq}
 use Rattle.std.specs.Cmp.Lexicographic.{bytes_decides}
 use Rattle.std.specs.Cmp.{first_so, second_so}
-use Rattle.cm_world.proofs.trees.Finding.{none_some, some_same}
+use Rattle.cm_world.proofs.lemmas.trees.Finding.{none_some, some_same}
 use Rattle.cm_order.specs.Glances.{is_offered, is_given_from}
 use Rattle.cm_order.proofs.dependents.put_offer.Goals as goal
 

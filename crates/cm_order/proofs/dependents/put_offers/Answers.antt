@@ -1,4 +1,4 @@
-use Rattle.cm_order.proofs.names.Sources.{offering_first, offering_more, offering_ends}
+use Rattle.cm_order.proofs.lemmas.names.Sources.{offering_first, offering_more, offering_ends}
 use Rattle.cm_order.proofs.dependents.put_offers.Goals as goal
 
 pub loop-offer-init : goal.loop-offer-init

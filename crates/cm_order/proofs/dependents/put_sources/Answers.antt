@@ -1,4 +1,4 @@
-use Rattle.cm_order.proofs.levels.Lists.{AreListed, listing_first, listing_more, listing_ends}
+use Rattle.cm_order.proofs.lemmas.levels.Lists.{AreListed, listing_first, listing_more, listing_ends}
 use Rattle.cm_order.proofs.dependents.put_sources.Goals as goal
 
 pub loop-source-init : goal.loop-source-init

@@ -1,5 +1,5 @@
 use Rattle.std.proofs.Common.{take}
-use Rattle.cm_order.proofs.levels.Lists.{AreListed}
+use Rattle.cm_order.proofs.lemmas.levels.Lists.{AreListed}
 use Rattle.cm_order.proofs.dependents.put_sources.Given as goal
 
 abbrev pub invariant-loop-source : goal.invariant-loop-source

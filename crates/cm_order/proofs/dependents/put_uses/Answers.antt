@@ -1,5 +1,5 @@
 use Rattle.cm_order.specs.Glances.{is_used_from}
-use Rattle.cm_order.proofs.names.Sources.{putting_first, putting_more, putting_ends}
+use Rattle.cm_order.proofs.lemmas.names.Sources.{putting_first, putting_more, putting_ends}
 use Rattle.cm_order.proofs.dependents.put_uses.Goals as goal
 
 pub loop-usage-init : goal.loop-usage-init

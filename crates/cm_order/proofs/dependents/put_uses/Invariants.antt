@@ -1,6 +1,6 @@
 use Rattle.std.proofs.Common.{take}
 use Rattle.cm_order.specs.Glances.{is_used_from}
-use Rattle.cm_order.proofs.names.Sources.{IsPutting}
+use Rattle.cm_order.proofs.lemmas.names.Sources.{IsPutting}
 use Rattle.cm_order.proofs.dependents.put_uses.Given as goal
 
 abbrev pub invariant-loop-usage : goal.invariant-loop-usage

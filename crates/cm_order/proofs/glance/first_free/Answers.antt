@@ -1,5 +1,5 @@
 use Rattle.std.proofs.Common.{Some}
-use Rattle.cm_order.proofs.levels.Clearing.{levels_changed, levels_same}
+use Rattle.cm_order.proofs.lemmas.levels.Clearing.{levels_changed, levels_same}
 use Rattle.cm_order.proofs.glance.first_free.Goals as goal
 
 pub returns-in_err-insert-clause-levels : goal.returns-in_err-insert-clause-levels

@@ -1,5 +1,5 @@
 use Rattle.std.proofs.Common.{sym, ◌∙◌}
-use Rattle.cm_order.proofs.levels.Glancing.{here_last}
+use Rattle.cm_order.proofs.lemmas.levels.Glancing.{here_last}
 use Rattle.cm_order.proofs.glance.is_last.Goals as goal
 
 pub returns-clause-last : goal.returns-clause-last

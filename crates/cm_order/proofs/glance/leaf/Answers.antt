@@ -1,6 +1,6 @@
 use Rattle.std.proofs.Common.{None, refl, sym, ◌∙◌}
 use Rattle.cm_trees.proofs.levels.Kids.{no_kids}
-use Rattle.cm_order.proofs.levels.Glancing.{here_last}
+use Rattle.cm_order.proofs.lemmas.levels.Glancing.{here_last}
 use Rattle.cm_order.proofs.glance.leaf.Goals as goal
 
 pub returns-then-is_idle-clause-glance : goal.returns-then-is_idle-clause-glance

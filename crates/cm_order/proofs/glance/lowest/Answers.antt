@@ -1,5 +1,5 @@
 use Rattle.std.proofs.Common.{sym, ◌∙◌}
-use Rattle.cm_order.proofs.levels.Glancing.{here_last}
+use Rattle.cm_order.proofs.lemmas.levels.Glancing.{here_last}
 use Rattle.cm_order.proofs.glance.lowest.Goals as goal
 
 pub returns-then-is_idle : goal.returns-then-is_idle

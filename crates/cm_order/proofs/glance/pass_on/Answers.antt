@@ -1,6 +1,6 @@
 use Rattle.std.proofs.Common.{sym}
 use Rattle.cm_trees.proofs.levels.Kids.{next_kid}
-use Rattle.cm_order.proofs.levels.Gathering.{room_less}
+use Rattle.cm_order.proofs.lemmas.levels.Gathering.{room_less}
 use Rattle.cm_order.proofs.glance.pass_on.Goals as goal
 
 pub loop-child-smaller : goal.loop-child-smaller

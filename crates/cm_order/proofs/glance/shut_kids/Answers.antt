@@ -1,7 +1,7 @@
 use Rattle.std.proofs.Common.{sym, ◌∙◌}
 use Rattle.cm_trees.proofs.levels.Kids.{next_kid}
-use Rattle.cm_order.proofs.levels.Gathering.{room_less}
-use Rattle.cm_order.proofs.levels.Glancing.{shut_more, shut_ends}
+use Rattle.cm_order.proofs.lemmas.levels.Gathering.{room_less}
+use Rattle.cm_order.proofs.lemmas.levels.Glancing.{shut_more, shut_ends}
 use Rattle.cm_order.proofs.glance.shut_kids.Goals as goal
 
 pub loop-child-smaller : goal.loop-child-smaller

@@ -1,5 +1,5 @@
 use Rattle.cm_order.specs.Plans.{AreShutSoFar}
-use Rattle.cm_order.proofs.levels.Gathering.{room}
+use Rattle.cm_order.proofs.lemmas.levels.Gathering.{room}
 use Rattle.cm_order.proofs.glance.shut_kids.Given as goal
 
 abbrev pub invariant-loop-child : goal.invariant-loop-child

@@ -1,5 +1,5 @@
 use Rattle.std.proofs.Common.{None}
-use Rattle.cm_order.proofs.levels.Clearing.{levels_changed, level_told}
+use Rattle.cm_order.proofs.lemmas.levels.Clearing.{levels_changed, level_told}
 use Rattle.cm_order.proofs.glance.take_level.Goals as goal
 
 pub returns-in-None : goal.returns-in-None

@@ -1,5 +1,5 @@
 use Rattle.std.proofs.Common.{refl, sym, ◌∙◌, inl}
-use Rattle.cm_order.proofs.levels.Owning.{own_gone, own_bound, own_leads_last}
+use Rattle.cm_order.proofs.lemmas.levels.Owning.{own_gone, own_bound, own_leads_last}
 use Rattle.cm_order.proofs.leading.leads_own.Goals as goal
 
 pub returns-then-is_shut-clause-leads : goal.returns-then-is_shut-clause-leads

@@ -1,6 +1,6 @@
 use Rattle.std.proofs.Common.{refl, sym, ◌∙◌, inr}
 use Rattle.cm_facts.proofs.Booleans.{false_iff}
-use Rattle.cm_order.proofs.levels.Owning.{kid_gone}
+use Rattle.cm_order.proofs.lemmas.levels.Owning.{kid_gone}
 use Rattle.cm_order.proofs.leading.leads_up.Goals as goal
 use Rattle.cm_trees.proofs.levels.Shut.{kid_shut}
 

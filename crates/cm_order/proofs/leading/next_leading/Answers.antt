@@ -1,7 +1,7 @@
 use Rattle.std.proofs.Common.{sym, ◌∙◌}
 use Rattle.cm_trees.proofs.levels.Kids.{next_kid}
-use Rattle.cm_order.proofs.levels.Gathering.{room_less}
-use Rattle.cm_order.proofs.levels.Leading.{passing_on, passing_found, passing_ends}
+use Rattle.cm_order.proofs.lemmas.levels.Gathering.{room_less}
+use Rattle.cm_order.proofs.lemmas.levels.Leading.{passing_on, passing_found, passing_ends}
 use Rattle.cm_order.proofs.leading.next_leading.Goals as goal
 
 pub leads_up-requires-clause-kid : goal.leads_up-requires-clause-kid

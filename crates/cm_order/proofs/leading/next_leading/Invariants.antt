@@ -1,8 +1,8 @@
 use Rattle.std.specs.Prelude.{IfSome}
 use Rattle.cm_order.specs.Levels.{IsLevel}
 use Rattle.cm_order.specs.Plans.{AreKnown}
-use Rattle.cm_order.proofs.levels.Gathering.{room}
-use Rattle.cm_order.proofs.levels.Leading.{IsPassing}
+use Rattle.cm_order.proofs.lemmas.levels.Gathering.{room}
+use Rattle.cm_order.proofs.lemmas.levels.Leading.{IsPassing}
 use Rattle.cm_order.proofs.leading.next_leading.Given as goal
 
 -- the children that were passed don't lead

@@ -1,4 +1,4 @@
-use Rattle.cm_order.proofs.levels.Leaving.{left_by}
+use Rattle.cm_order.proofs.lemmas.levels.Leaving.{left_by}
 use Rattle.cm_order.proofs.level.binds.Goals as goal
 
 pub returns : goal.returns

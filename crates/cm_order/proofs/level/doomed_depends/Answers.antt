@@ -1,7 +1,7 @@
 use Rattle.std.proofs.Common.{IsTrue, subst}
 use Rattle.std.specs.Prelude.{◌↔◌}
 use Rattle.cm_decl.specs.GraphInside.{WouldDepend}
-use Rattle.cm_order.proofs.levels.Leaving.{would_row}
+use Rattle.cm_order.proofs.lemmas.levels.Leaving.{would_row}
 use Rattle.cm_order.proofs.level.doomed_depends.Goals as goal
 
 pub returns-in-Some : goal.returns-in-Some

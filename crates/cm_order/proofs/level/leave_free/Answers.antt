@@ -1,5 +1,5 @@
 use Rattle.std.proofs.Common.{arith}
-use Rattle.cm_order.proofs.levels.Leaving.{one_binds, one_leaves, all_leave}
+use Rattle.cm_order.proofs.lemmas.levels.Leaving.{one_binds, one_leaves, all_leave}
 use Rattle.cm_order.proofs.level.leave_free.Goals as goal
 
 pub returns-then-binds : goal.returns-then-binds

@@ -1,5 +1,5 @@
 use Rattle.std.proofs.Common.{sym, ◌∙◌}
-use Rattle.cm_order.proofs.levels.Gathering.{room_less, dynamic_more, dynamic_ends}
+use Rattle.cm_order.proofs.lemmas.levels.Gathering.{room_less, dynamic_more, dynamic_ends}
 use Rattle.cm_order.proofs.members.dynamic.Goals as goal
 
 pub loop-child-smaller : goal.loop-child-smaller

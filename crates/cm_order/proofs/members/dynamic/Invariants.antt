@@ -1,7 +1,7 @@
 use Rattle.std.proofs.Common.{◌≡◌, ◌++◌, flat_map}
 use Rattle.cm_trees.specs.Kids.{kids}
 use Rattle.cm_trees.specs.Names.{dynamic_child, dynamic_children}
-use Rattle.cm_order.proofs.levels.Gathering.{room}
+use Rattle.cm_order.proofs.lemmas.levels.Gathering.{room}
 use Rattle.cm_order.proofs.members.dynamic.Given as goal
 
 -- what is there, and what the children to come add, is all

@@ -1,4 +1,4 @@
-use Rattle.cm_order.proofs.levels.Gathering.{AreGathered, room}
+use Rattle.cm_order.proofs.lemmas.levels.Gathering.{AreGathered, room}
 use Rattle.cm_order.proofs.members.members_of.Given as goal
 
 abbrev pub invariant-loop-child : goal.invariant-loop-child

@@ -1,7 +1,7 @@
 use Rattle.std.proofs.Common.{subst}
 use Rattle.cm_order.specs.declared.search.SearchGoal.TheVariants.{Pending}
 use Rattle.cm_order.specs.Search.{IsSearched}
-use Rattle.cm_order.proofs.searches.Answering.{own_top, one_is_found, waits_found}
+use Rattle.cm_order.proofs.lemmas.searches.Answering.{own_top, one_is_found, waits_found}
 use Rattle.cm_order.proofs.picking.action_at.Goals as goal
 
 pub search-requires-clause-top : goal.search-requires-clause-top

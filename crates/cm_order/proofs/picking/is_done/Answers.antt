@@ -1,5 +1,5 @@
 use Rattle.std.proofs.Common.{sym, ◌∙◌}
-use Rattle.cm_order.proofs.levels.Glancing.{shut_below}
+use Rattle.cm_order.proofs.lemmas.levels.Glancing.{shut_below}
 use Rattle.cm_order.proofs.picking.is_done.Goals as goal
 
 pub returns-then-not-is_unshut : goal.returns-then-not-is_unshut

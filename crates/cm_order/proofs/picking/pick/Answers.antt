@@ -1,4 +1,4 @@
-use Rattle.cm_order.proofs.searches.Reaching.{plan_none}
+use Rattle.cm_order.proofs.lemmas.searches.Reaching.{plan_none}
 use Rattle.cm_order.proofs.picking.pick.Goals as goal
 
 pub pick_with-requires-clause-plan : goal.pick_with-requires-clause-plan

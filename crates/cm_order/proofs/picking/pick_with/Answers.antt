@@ -1,5 +1,5 @@
 use Rattle.std.proofs.Common.{sym}
-use Rattle.cm_order.proofs.searches.Answering.{none_left, own_top}
+use Rattle.cm_order.proofs.lemmas.searches.Answering.{none_left, own_top}
 use Rattle.cm_order.proofs.picking.pick_with.Goals as goal
 
 pub returns-in_default-clause-picked : goal.returns-in_default-clause-picked

@@ -2,7 +2,7 @@ use Rattle.std.proofs.Common.{rules, ◌≡◌, Some, IsTrue, subst}
 use Rattle.std.specs.Prelude.{IfSome}
 use Rattle.cm_world.specs.Rows.{is_subtree_shut}
 use Rattle.cm_world.specs.RowsInside.{child_behind}
-use Rattle.cm_order.proofs.levels.Glancing.{shut_more}
+use Rattle.cm_order.proofs.lemmas.levels.Glancing.{shut_more}
 use Rattle.cm_order.proofs.quick.count_done.Goals as goal
 
 pub returns-then-next-child-clause-known : goal.returns-then-next-child-clause-known

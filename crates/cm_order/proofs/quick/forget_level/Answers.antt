@@ -1,5 +1,5 @@
 use Rattle.std.proofs.Common.{None}
-use Rattle.cm_order.proofs.levels.Clearing.{levels_changed}
+use Rattle.cm_order.proofs.lemmas.levels.Clearing.{levels_changed}
 use Rattle.cm_order.proofs.quick.forget_level.Goals as goal
 
 pub returns : goal.returns

@@ -1,6 +1,6 @@
 use Rattle.std.proofs.Common.{sym, ◌∙◌}
 use Rattle.cm_order.specs.Plans.{IsDescent, IsStand}
-use Rattle.cm_order.proofs.searches.Reaching.{last_stand, looked_at, left_behind}
+use Rattle.cm_order.proofs.lemmas.searches.Reaching.{last_stand, looked_at, left_behind}
 use Rattle.cm_order.proofs.quick.go_back.Goals as goal
 
 pub loop-stand-init : goal.loop-stand-init

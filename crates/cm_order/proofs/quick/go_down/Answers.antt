@@ -1,7 +1,7 @@
 use Rattle.std.proofs.Common.{subst}
 use Rattle.cm_order.specs.Glances.{IsGlance}
-use Rattle.cm_order.proofs.searches.Going.{at_on, at_lower, at_found}
-use Rattle.cm_order.proofs.searches.Reaching.{at_reached}
+use Rattle.cm_order.proofs.lemmas.searches.Going.{at_on, at_lower, at_found}
+use Rattle.cm_order.proofs.lemmas.searches.Reaching.{at_reached}
 use Rattle.cm_order.proofs.quick.go_down.Goals as goal
 
 pub down-init : goal.down-init

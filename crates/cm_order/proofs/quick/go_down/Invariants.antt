@@ -1,5 +1,5 @@
 use Rattle.cm_order.specs.Plans.{IsDescent, AreKnown}
-use Rattle.cm_order.proofs.searches.Going.{IsAt, below_left}
+use Rattle.cm_order.proofs.lemmas.searches.Going.{IsAt, below_left}
 use Rattle.cm_order.proofs.quick.go_down.Given as goal
 
 abbrev pub invariant-down : goal.invariant-down

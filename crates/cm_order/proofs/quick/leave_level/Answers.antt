@@ -2,7 +2,7 @@ use Rattle.std.proofs.Common.{◌≡◌, Some, sym, ◌∙◌, ap}
 use Rattle.std.specs.Option.{option_copied_mut, is_some}
 use Rattle.std.specs.Ordering.{nat_cmp}
 use Rattle.std.specs.BTreeMap.{get}
-use Rattle.cm_order.proofs.levels.Clearing.{level_told, levels_changed, level_dropped}
+use Rattle.cm_order.proofs.lemmas.levels.Clearing.{level_told, levels_changed, level_dropped}
 use Rattle.cm_order.proofs.quick.leave_level.Goals as goal
 
 pub leave-requires-clause-known : goal.leave-requires-clause-known

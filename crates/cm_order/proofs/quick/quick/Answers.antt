@@ -1,6 +1,6 @@
 use Rattle.std.proofs.Common.{refl, subst}
 use Rattle.cm_order.specs.Plans.{IsDescent}
-use Rattle.cm_order.proofs.searches.Reaching.{way_changed}
+use Rattle.cm_order.proofs.lemmas.searches.Reaching.{way_changed}
 use Rattle.cm_order.proofs.quick.quick.Goals as goal
 
 pub returns-in_err-begin-clause-plan : goal.returns-in_err-begin-clause-plan

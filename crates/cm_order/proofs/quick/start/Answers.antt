@@ -1,5 +1,5 @@
 use Rattle.cm_trees.proofs.trees.Tops.{top_lives}
-use Rattle.cm_order.proofs.searches.Reaching.{reached_top, one_more, unknown}
+use Rattle.cm_order.proofs.lemmas.searches.Reaching.{reached_top, one_more, unknown}
 use Rattle.cm_order.proofs.quick.start.Goals as goal
 
 pub returns-clause-start : goal.returns-clause-start

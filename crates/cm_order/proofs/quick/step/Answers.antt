@@ -1,7 +1,7 @@
 use Rattle.std.proofs.Common.{rules, ◌≡◌, Some, sym, subst}
 use Rattle.cm_order.specs.declared.search.VisitResult.TheVariants.{Below}
 use Rattle.cm_order.specs.Plans.{IsDescent}
-use Rattle.cm_order.proofs.searches.Reaching.{looked_at, gone_on}
+use Rattle.cm_order.proofs.lemmas.searches.Reaching.{looked_at, gone_on}
 use Rattle.cm_order.proofs.quick.step.Goals as goal
 
 pub returns-in_ok-push-clause-way : goal.returns-in_ok-push-clause-way

@@ -1,9 +1,9 @@
 use Rattle.std.proofs.Common.{rules, ◌≡◌, [], sym, subst}
 use Rattle.cm_order.specs.Search.{IsVisit}
 use Rattle.cm_trees.proofs.trees.Tops.{top_lives}
-use Rattle.cm_order.proofs.searches.Turns.{alone, under}
-use Rattle.cm_order.proofs.searches.Weights.{falls}
-use Rattle.cm_order.proofs.searches.Searching.{IsSearching, searching_first, searching_on, searching_found, searching_ends, goes_kid}
+use Rattle.cm_order.proofs.lemmas.searches.Turns.{alone, under}
+use Rattle.cm_order.proofs.lemmas.searches.Weights.{falls}
+use Rattle.cm_order.proofs.lemmas.searches.Searching.{IsSearching, searching_first, searching_on, searching_found, searching_ends, goes_kid}
 use Rattle.cm_order.proofs.search.search.Goals as goal
 
 pub loop-spot-init : goal.loop-spot-init

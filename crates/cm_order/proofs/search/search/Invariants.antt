@@ -1,8 +1,8 @@
 use Rattle.std.specs.Prelude.{IfSome}
 use Rattle.cm_order.specs.Levels.{IsLevel}
 use Rattle.cm_order.specs.Plans.{AreKnown}
-use Rattle.cm_order.proofs.searches.Searching.{IsSearching}
-use Rattle.cm_order.proofs.searches.Weights.{weigh}
+use Rattle.cm_order.proofs.lemmas.searches.Searching.{IsSearching}
+use Rattle.cm_order.proofs.lemmas.searches.Weights.{weigh}
 use Rattle.cm_order.proofs.search.search.Given as goal
 
 -- what is left to look at decides, and what is kept holds

@@ -1,10 +1,10 @@
 use Rattle.std.proofs.Common.{◌≡◌, [], ◌∷◌, ◌++◌, true, false, refl, rules}
 use Rattle.cm_facts.proofs.Booleans.{and_false}
 use Rattle.cm_plain.specs.Plain.{PassesPieces}
-use Rattle.cm_plain.proofs.PieceLemmas.{passes_then}
-use Rattle.cm_plain.proofs.PlainLemmas.{value_of_string, value_of_members, value_of_items, member_added}
-use Rattle.cm_plain.proofs.PlainLemmas.{first_item, next_item, items_end, no_items_end}
-use Rattle.cm_plain.proofs.PlainLemmas.{first_member, next_member, members_end, no_members_end}
+use Rattle.cm_plain.proofs.lemmas.Piece.{passes_then}
+use Rattle.cm_plain.proofs.lemmas.Plain.{value_of_string, value_of_members, value_of_items, member_added}
+use Rattle.cm_plain.proofs.lemmas.Plain.{first_item, next_item, items_end, no_items_end}
+use Rattle.cm_plain.proofs.lemmas.Plain.{first_member, next_member, members_end, no_members_end}
 use Rattle.cm_plain.proofs.plain.+read_value.Goals as goal
 
 pub read_value-returns-in-Some-clause-value : goal.read_value-returns-in-Some-clause-value

@@ -3,7 +3,7 @@ use denote.Text.{Utf8}
 use denote.Shadow.{shadow}
 use Rattle.cm_plain.specs.Plain.{PassesPieces}
 use Rattle.cm_plain.specs.JsonTree.{members_view}
-use Rattle.cm_plain.proofs.PlainLemmas.{ItemsSo, MembersSo}
+use Rattle.cm_plain.proofs.lemmas.Plain.{ItemsSo, MembersSo}
 use Rattle.cm_plain.proofs.plain.+read_value.Given as goal
 
 abbrev pub decreases-read_value : goal.decreases-read_value

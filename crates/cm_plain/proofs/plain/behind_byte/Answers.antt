@@ -1,6 +1,6 @@
 use Rattle.std.proofs.Common.{◌≡◌, true, sym, ap, ◌∙◌, rules}
 use Rattle.cm_plain.specs.Plain.{begins}
-use Rattle.cm_plain.proofs.PlainLemmas.{byte_cut}
+use Rattle.cm_plain.proofs.lemmas.Plain.{byte_cut}
 use Rattle.cm_plain.proofs.plain.behind_byte.Goals as goal
 
 pub range_from-requires : goal.range_from-requires

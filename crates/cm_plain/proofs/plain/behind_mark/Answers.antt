@@ -1,5 +1,5 @@
 use Rattle.cm_text.specs.Json.{is_comma}
-use Rattle.cm_plain.proofs.PieceLemmas.{passes_mark, passes_then}
+use Rattle.cm_plain.proofs.lemmas.Piece.{passes_mark, passes_then}
 use Rattle.cm_plain.proofs.plain.behind_mark.Goals as goal
 
 pub returns-clause-passed : goal.returns-clause-passed

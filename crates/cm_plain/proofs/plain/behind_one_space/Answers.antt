@@ -1,7 +1,7 @@
 use Rattle.std.proofs.Common.{◌≡◌, true, sym, ap, ◌∙◌, rules}
 use Rattle.cm_text.specs.Bytes.{is_space, begins_with}
-use Rattle.cm_plain.proofs.PieceLemmas.{passes_space}
-use Rattle.cm_plain.proofs.PlainLemmas.{space_cut, space_passed}
+use Rattle.cm_plain.proofs.lemmas.Piece.{passes_space}
+use Rattle.cm_plain.proofs.lemmas.Plain.{space_cut, space_passed}
 use Rattle.cm_plain.proofs.plain.behind_one_space.Goals as goal
 
 pub range_from-requires : goal.range_from-requires

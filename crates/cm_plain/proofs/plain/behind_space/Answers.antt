@@ -1,5 +1,5 @@
 use Rattle.std.proofs.Common.{rules}
-use Rattle.cm_plain.proofs.PieceLemmas.{passes_nothing, passes_then}
+use Rattle.cm_plain.proofs.lemmas.Piece.{passes_nothing, passes_then}
 use Rattle.cm_plain.proofs.plain.behind_space.Goals as goal
 
 pub loop-rest-init : goal.loop-rest-init

@@ -1,7 +1,7 @@
 use Rattle.std.proofs.Common.{◌≡◌, length, false, arith}
 use Rattle.cm_plain.specs.JsonTree.{view}
-use Rattle.cm_plain.proofs.PieceLemmas.{passes_then, reads_as_json}
-use Rattle.cm_plain.proofs.PlainLemmas.{text_read}
+use Rattle.cm_plain.proofs.lemmas.Piece.{passes_then, reads_as_json}
+use Rattle.cm_plain.proofs.lemmas.Plain.{text_read}
 use Rattle.cm_plain.proofs.plain.read_plain.Goals as goal
 
 pub returns-clause-value : goal.returns-clause-value

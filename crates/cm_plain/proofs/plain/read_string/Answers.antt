@@ -1,6 +1,6 @@
 use Rattle.std.proofs.Common.{false}
-use Rattle.cm_plain.proofs.PieceLemmas.{passes_string, passes_then}
-use Rattle.cm_plain.proofs.PlainLemmas.{string_passed}
+use Rattle.cm_plain.proofs.lemmas.Piece.{passes_string, passes_then}
+use Rattle.cm_plain.proofs.lemmas.Plain.{string_passed}
 use Rattle.cm_plain.proofs.plain.read_string.Goals as goal
 
 pub returns-clause-lexed : goal.returns-clause-lexed

@@ -1,6 +1,6 @@
 use Rattle.std.proofs.Common.{◌≡◌, ◌-◌, true, refl, sym, ap, ◌∙◌, take, arith, rules}
 use Rattle.std.proofs.lemmas.Str.{IsCharBoundary-after_ascii}
-use Rattle.cm_plain.proofs.PlainLemmas.{closes_at, string_split, inside_before}
+use Rattle.cm_plain.proofs.lemmas.Plain.{closes_at, string_split, inside_before}
 use Rattle.cm_plain.proofs.plain.split_string.Goals as goal
 
 pub range_from-requires : goal.range_from-requires

@@ -1,8 +1,8 @@
 use Rattle.std.proofs.Common.{◌≡◌, [], ◌∷◌, ◌++◌, rules}
 use Rattle.cm_plain.specs.JsonTree.{members_view}
-use Rattle.cm_plain.proofs.RelaxedLemmas.{string_value, items_value, members_value, item_taken, member_taken}
-use Rattle.cm_plain.proofs.RelaxedLemmas.{items_first, items_next, items_close, items_trail, items_none}
-use Rattle.cm_plain.proofs.RelaxedLemmas.{members_first, members_next, members_close, members_trail, members_none}
+use Rattle.cm_plain.proofs.lemmas.Loose.{string_value, items_value, members_value, item_taken, member_taken}
+use Rattle.cm_plain.proofs.lemmas.Loose.{items_first, items_next, items_close, items_trail, items_none}
+use Rattle.cm_plain.proofs.lemmas.Loose.{members_first, members_next, members_close, members_trail, members_none}
 use Rattle.cm_plain.proofs.relaxed.+read_value.Goals as goal
 
 pub read_value-returns-in-Some-clause-value : goal.read_value-returns-in-Some-clause-value

@@ -2,7 +2,7 @@ use Rattle.std.proofs.Common.{◌*◌, ◌+◌, ◌<◌, length}
 use denote.Text.{Utf8}
 use denote.Shadow.{shadow}
 use Rattle.cm_plain.specs.JsonTree.{members_view}
-use Rattle.cm_plain.proofs.RelaxedLemmas.{ItemsRead, MembersRead}
+use Rattle.cm_plain.proofs.lemmas.Loose.{ItemsRead, MembersRead}
 use Rattle.cm_plain.proofs.relaxed.+read_value.Given as goal
 
 abbrev pub decreases-read_value : goal.decreases-read_value

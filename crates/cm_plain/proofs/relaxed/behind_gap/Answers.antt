@@ -1,5 +1,5 @@
 use Rattle.std.proofs.Common.{[], rules}
-use Rattle.cm_plain.proofs.RelaxedLemmas.{passes_nothing, passes_then}
+use Rattle.cm_plain.proofs.lemmas.Loose.{passes_nothing, passes_then}
 use Rattle.cm_plain.proofs.relaxed.behind_gap.Goals as goal
 
 pub loop-rest-init : goal.loop-rest-init

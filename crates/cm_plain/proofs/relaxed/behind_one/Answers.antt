@@ -1,6 +1,6 @@
 use Rattle.std.proofs.Common.{◌≡◌, true, sym, ap, ◌∙◌, rules}
 use Rattle.cm_text.specs.Bytes.{is_space, begins_with}
-use Rattle.cm_plain.proofs.PlainLemmas.{space_cut}
+use Rattle.cm_plain.proofs.lemmas.Plain.{space_cut}
 use Rattle.cm_plain.proofs.relaxed.behind_one.Goals as goal
 
 pub range_from-requires : goal.range_from-requires

@@ -1,4 +1,4 @@
-use Rattle.cm_plain.proofs.RelaxedLemmas.{string_read}
+use Rattle.cm_plain.proofs.lemmas.Loose.{string_read}
 use Rattle.cm_plain.proofs.relaxed.read_quoted.Goals as goal
 
 pub returns-clause-string : goal.returns-clause-string

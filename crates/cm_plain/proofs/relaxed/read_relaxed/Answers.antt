@@ -1,6 +1,6 @@
 use Rattle.std.proofs.Common.{◌≡◌, length, arith}
 use Rattle.cm_plain.specs.JsonTree.{view}
-use Rattle.cm_plain.proofs.RelaxedLemmas.{text_gives}
+use Rattle.cm_plain.proofs.lemmas.Loose.{text_gives}
 use Rattle.cm_plain.proofs.relaxed.read_relaxed.Goals as goal
 
 pub returns : goal.returns

@@ -4,7 +4,7 @@ use Rattle.std.specs.Map.{keys_of}
 use Rattle.std.specs.String.{string_cmp}
 use Rattle.cm_plain.specs.JsonTree.{members_view}
 use Rattle.serde_json.proofs.Views.{Entry}
-use Rattle.cm_plain.proofs.TreeLemmas.{member_moved}
+use Rattle.cm_plain.proofs.lemmas.Tree.{member_moved}
 use Rattle.cm_plain.proofs.tree.+tree_of.Goals as goal
 
 pub members_of-loop-key-preserved : goal.members_of-loop-key-preserved

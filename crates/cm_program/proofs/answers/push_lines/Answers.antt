@@ -1,5 +1,5 @@
 use Rattle.std.proofs.Common.{string_bytes, drop}
-use Rattle.cm_program.proofs.lanes.Printing.{ends_early}
+use Rattle.cm_program.proofs.lemmas.lanes.Printing.{ends_early}
 use Rattle.cm_program.proofs.answers.push_lines.Goals as goal
 
 pub returns-then-at-said : goal.returns-then-at-said

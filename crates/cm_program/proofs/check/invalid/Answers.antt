@@ -1,6 +1,6 @@
 use Rattle.std.proofs.Common.{sym, subst, ◌∙◌}
 use Rattle.cm_program.specs.Checks.{IsJudged}
-use Rattle.cm_program.proofs.whole.CheckLemmas.{judged_invalid}
+use Rattle.cm_program.proofs.lemmas.whole.Check.{judged_invalid}
 use Rattle.cm_program.proofs.check.invalid.Goals as goal
 
 pub returns-in_ok-line-in-Bad-clause-verdict : goal.returns-in_ok-line-in-Bad-clause-verdict

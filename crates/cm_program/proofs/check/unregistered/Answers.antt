@@ -1,6 +1,6 @@
 use Rattle.std.proofs.Common.{sym, subst, ◌∙◌}
 use Rattle.cm_program.specs.Checks.{IsJudged}
-use Rattle.cm_program.proofs.whole.CheckLemmas.{judged_unregistered}
+use Rattle.cm_program.proofs.lemmas.whole.Check.{judged_unregistered}
 use Rattle.cm_program.proofs.check.unregistered.Goals as goal
 
 pub returns-clause-verdict : goal.returns-clause-verdict

@@ -1,6 +1,6 @@
 use Rattle.std.proofs.Common.{sym, subst, ◌∙◌}
 use Rattle.cm_program.specs.Checks.{IsJudged}
-use Rattle.cm_program.proofs.whole.CheckLemmas.{judged_unstored}
+use Rattle.cm_program.proofs.lemmas.whole.Check.{judged_unstored}
 use Rattle.cm_program.proofs.check.unstored.Goals as goal
 
 pub returns-clause-verdict : goal.returns-clause-verdict

@@ -1,6 +1,6 @@
 use Rattle.std.proofs.Common.{subst}
 use Rattle.cm_storage.specs.Faults as storage
-use Rattle.cm_program.proofs.whole.CheckLemmas.{valid_verdict}
+use Rattle.cm_program.proofs.lemmas.whole.Check.{valid_verdict}
 use Rattle.cm_program.proofs.check.verdict_on_storage.Goals as goal
 
 pub returns-in-Ok-clause-verdict : goal.returns-in-Ok-clause-verdict

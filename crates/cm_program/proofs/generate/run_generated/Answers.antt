@@ -2,7 +2,7 @@ use Rattle.std.proofs.Common.{◌∙◌}
 use Rattle.std.specs.Prelude.{None}
 use Rattle.cm_call.specs.Generated.{script_of}
 use Rattle.cm_call.specs.declared.call.Wanted.TheVariants.{Summary}
-use Rattle.cm_program.proofs.whole.RunLemmas.{history_of, own_nothing, own_served}
+use Rattle.cm_program.proofs.lemmas.whole.Run.{history_of, own_nothing, own_served}
 use Rattle.cm_program.proofs.generate.run_generated.Goals as goal
 
 pub returns-in_default-clause-runs : goal.returns-in_default-clause-runs

@@ -2,7 +2,7 @@ use Rattle.std.proofs.Common.{◌≡◌, Ok, subst}
 use Rattle.cm_command.specs.declared.script.Script.{Script}
 use Rattle.cm_call.specs.Generated.{script_of}
 use Rattle.cm_program.specs.Stock.{served_script}
-use Rattle.cm_program.proofs.lanes.OwnScript.{own_fit}
+use Rattle.cm_program.proofs.lemmas.lanes.OwnScript.{own_fit}
 use Rattle.cm_program.proofs.generate.serve_generated.Goals as goal
 
 pub returns-in-Ok-clause-good : goal.returns-in-Ok-clause-good

@@ -1,4 +1,4 @@
-use Rattle.cm_program.proofs.unfailing.Complete.{complete}
+use Rattle.cm_program.proofs.lemmas.unfailing.Complete.{complete}
 use Rattle.cm_program.proofs.laws.runs_are_complete.Goals as goal
 
 pub returns : goal.returns

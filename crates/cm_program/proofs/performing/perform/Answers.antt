@@ -1,4 +1,4 @@
-use Rattle.cm_program.proofs.whole.RunLemmas.{performs_nothing, reported_nothing}
+use Rattle.cm_program.proofs.lemmas.whole.Run.{performs_nothing, reported_nothing}
 use Rattle.cm_program.proofs.performing.perform.Goals as goal
 
 pub returns-in-Err-clause-performs : goal.returns-in-Err-clause-performs

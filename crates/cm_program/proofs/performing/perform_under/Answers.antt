@@ -1,5 +1,5 @@
-use Rattle.cm_program.proofs.whole.RunLemmas.{performs_by, reported_by}
-use Rattle.cm_program.proofs.lanes.Sixteen.{sixteen_all}
+use Rattle.cm_program.proofs.lemmas.whole.Run.{performs_by, reported_by}
+use Rattle.cm_program.proofs.lemmas.lanes.Sixteen.{sixteen_all}
 use Rattle.cm_program.proofs.performing.perform_under.Goals as goal
 
 pub close_realm-requires-clause-passes : goal.close_realm-requires-clause-passes

@@ -1,4 +1,4 @@
-use Rattle.cm_program.proofs.whole.Reporting.{report_on}
+use Rattle.cm_program.proofs.lemmas.whole.Reporting.{report_on}
 use Rattle.cm_program.proofs.performing.report_of.Goals as goal
 
 pub returns-in-Ok : goal.returns-in-Ok

@@ -17,12 +17,12 @@ use Rattle.cm_call.specs.declared.call.Wanted.TheVariants.{Summary}
 use Rattle.cm_program.specs.Sessions.{served_frame, served_manifests}
 use Rattle.cm_session.specs.Links.{view_of}
 use Rattle.cm_session.specs.Serving.{back_view}
-use Rattle.cm_program.proofs.links.Attending.{runs_no_session}
-use Rattle.cm_program.proofs.whole.RunLemmas.{empty_history, known_nothing, of_faulty, own_nothing, some_unread}
-use Rattle.cm_program.proofs.whole.Handing.{handed_on}
-use Rattle.cm_program.proofs.whole.Saying.{says_usage, says_want}
-use Rattle.cm_program.proofs.Statuses.{at_six, at_told, but_told, check_idles, few_given, not_check, not_six, not_two, not_run, not_script, not_serve, run_isnt_idle, script_idles, serve_isnt_idle}
-use Rattle.cm_program.proofs.Asking.{asked, is_audit, is_check, is_generate, is_run, is_serve, no_call, no_fault, no_other, same_options, same_serving, same_workload, unusable}
+use Rattle.cm_program.proofs.lemmas.links.Attending.{runs_no_session}
+use Rattle.cm_program.proofs.lemmas.whole.Run.{empty_history, known_nothing, of_faulty, own_nothing, some_unread}
+use Rattle.cm_program.proofs.lemmas.whole.Handing.{handed_on}
+use Rattle.cm_program.proofs.lemmas.whole.Saying.{says_usage, says_want}
+use Rattle.cm_program.proofs.lemmas.Statuses.{at_six, at_told, but_told, check_idles, few_given, not_check, not_six, not_two, not_run, not_script, not_serve, run_isnt_idle, script_idles, serve_isnt_idle}
+use Rattle.cm_program.proofs.lemmas.Asking.{asked, is_audit, is_check, is_generate, is_run, is_serve, no_call, no_fault, no_other, same_options, same_serving, same_workload, unusable}
 use Rattle.cm_program.proofs.run.run.Goals as goal
 
 pub returns-in-Ok-Run : goal.returns-in-Ok-Run

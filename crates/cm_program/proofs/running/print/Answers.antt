@@ -1,6 +1,6 @@
 use Rattle.std.proofs.Common.{◌∙◌, subst}
 use Rattle.cm_io.specs.OutsideInside.{PutsAll}
-use Rattle.cm_program.proofs.whole.Printing.{printed_wanting, printed_done}
+use Rattle.cm_program.proofs.lemmas.whole.Printing.{printed_wanting, printed_done}
 use Rattle.cm_program.proofs.running.print.Goals as goal
 
 pub returns-then-is_out_of_memory-clause-printed : goal.returns-then-is_out_of_memory-clause-printed

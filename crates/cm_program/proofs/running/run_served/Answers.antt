@@ -1,5 +1,5 @@
 use Rattle.std.proofs.Common.{◌∙◌, ap}
-use Rattle.cm_program.proofs.whole.RunLemmas.{runs_nothing, runs_back}
+use Rattle.cm_program.proofs.lemmas.whole.Run.{runs_nothing, runs_back}
 use Rattle.cm_program.proofs.running.run_served.Goals as goal
 
 pub returns-in_default-clause-runs : goal.returns-in_default-clause-runs

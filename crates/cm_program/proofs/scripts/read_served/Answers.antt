@@ -1,6 +1,6 @@
 use Rattle.std.proofs.Common.{rules}
-use Rattle.cm_program.proofs.whole.PrefixLemmas.{served_ended, served_some, fault_known}
-use Rattle.cm_program.proofs.texts.StockLemmas.{served_tells, stops_for}
+use Rattle.cm_program.proofs.lemmas.whole.Prefix.{served_ended, served_some, fault_known}
+use Rattle.cm_program.proofs.lemmas.texts.Stock.{served_tells, stops_for}
 use Rattle.cm_program.proofs.scripts.read_served.Goals as goal
 
 pub returns-in-Ok-serve-clause-good : goal.returns-in-Ok-serve-clause-good

@@ -7,8 +7,8 @@ use Rattle.cm_program.specs.declared.stock.LoadedScript.{LoadedScript}
 use Rattle.cm_program.specs.declared.scripts.Stop.{Stop}
 use Rattle.cm_program.specs.Run.{IsRefusalStatus}
 use Rattle.cm_program.specs.Headline.{RunsNothing}
-use Rattle.cm_program.proofs.whole.RunLemmas.{not_faulty, as_served, known_nothing, known_of_some, refused_runs, history_of, some_refused, some_served, some_unread}
-use Rattle.cm_program.proofs.Statuses.{not_run, run_goes_on}
+use Rattle.cm_program.proofs.lemmas.whole.Run.{not_faulty, as_served, known_nothing, known_of_some, refused_runs, history_of, some_refused, some_served, some_unread}
+use Rattle.cm_program.proofs.lemmas.Statuses.{not_run, run_goes_on}
 use Rattle.cm_program.proofs.scripts.run_script.Goals as goal
 
 known : (served : LoadedScript) (left : Option (List ℕ)) → OfSome (λ bytes. LoadsScript bytes served) left → OfKnown (λ bytes. LoadsScript bytes served) left

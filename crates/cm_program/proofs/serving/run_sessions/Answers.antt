@@ -2,7 +2,7 @@ use Rattle.std.proofs.Common.{◌∙◌}
 use Rattle.cm_session.specs.Links.{view_of}
 use Rattle.cm_session.specs.Serving.{back_view}
 use Rattle.cm_program.specs.Sessions.{served_frame, served_manifests}
-use Rattle.cm_program.proofs.links.Doors.{at_is_open, at_same, attended_by, failed_run, unattended_for_fault, unattended_for_want}
+use Rattle.cm_program.proofs.lemmas.links.Doors.{at_is_open, at_same, attended_by, failed_run, unattended_for_fault, unattended_for_want}
 use Rattle.cm_program.proofs.serving.run_sessions.Goals as goal
 
 pub returns-in_default-clause-attended : goal.returns-in_default-clause-attended

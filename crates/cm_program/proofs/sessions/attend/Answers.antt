@@ -3,9 +3,9 @@ use Rattle.cm_session.specs.Links.{view_of}
 use Rattle.cm_session.specs.Serving.{back_view}
 use Rattle.cm_program.specs.Run.{IsServeStatus}
 use Rattle.cm_program.specs.Sessions.{RunsSessions}
-use Rattle.cm_program.proofs.links.Attending.{attended, ended_passes, own_passes}
-use Rattle.cm_program.proofs.links.Doors.{is_done, is_fault, serves}
-use Rattle.cm_program.proofs.lanes.Sixteen.{sixteen_all, sixteen_new}
+use Rattle.cm_program.proofs.lemmas.links.Attending.{attended, ended_passes, own_passes}
+use Rattle.cm_program.proofs.lemmas.links.Doors.{is_done, is_fault, serves}
+use Rattle.cm_program.proofs.lemmas.lanes.Sixteen.{sixteen_all, sixteen_new}
 use Rattle.cm_program.proofs.sessions.attend.Goals as goal
 
 pub serve_sessions-passes-requires-clause-passes : goal.serve_sessions-passes-requires-clause-passes

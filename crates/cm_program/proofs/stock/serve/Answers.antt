@@ -1,4 +1,4 @@
-use Rattle.cm_program.proofs.texts.StockLemmas.{fault_of_script, fit_of_script}
+use Rattle.cm_program.proofs.lemmas.texts.Stock.{fault_of_script, fit_of_script}
 use Rattle.cm_program.proofs.stock.serve.Goals as goal
 
 pub returns-clause-bad : goal.returns-clause-bad

@@ -1,6 +1,6 @@
 use Rattle.std.proofs.Common.{ℕ, List, subst}
 use Rattle.cm_program.specs.Verdicts.{IsVerdictOn}
-use Rattle.cm_program.proofs.whole.VerdictLemmas.{verdict_ended, verdict_some}
+use Rattle.cm_program.proofs.lemmas.whole.Verdict.{verdict_ended, verdict_some}
 use Rattle.cm_program.proofs.verdict.read_verdict.Goals as goal
 
 pub returns-in-Ok-verdict_on-clause-verdict : goal.returns-in-Ok-verdict_on-clause-verdict

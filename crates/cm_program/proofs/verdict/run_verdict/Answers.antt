@@ -1,7 +1,7 @@
 use Rattle.std.proofs.Common.{rules}
 use Rattle.std.specs.Io.KnownBytes.{Appends}
 use Rattle.cm_program.specs.Written.{AppendsPrefix}
-use Rattle.cm_program.proofs.whole.VerdictLemmas.{told_at, told_some}
+use Rattle.cm_program.proofs.lemmas.whole.Verdict.{told_at, told_some}
 use Rattle.cm_program.proofs.verdict.run_verdict.Goals as goal
 
 pub returns-in-Done-clause-good : goal.returns-in-Done-clause-good

@@ -4,7 +4,7 @@ use Rattle.cm_read.specs.declared.rows.Registry.TheVariants.{Runners, Debug}
 use Rattle.cm_read.specs.Fields.{name_at}
 use Rattle.cm_read.specs.Words.{extends_at}
 use Rattle.cm_read.specs.Environments.{registry_at, environment_row_at}
-use Rattle.cm_read.proofs.ByTwos.{fails_then, gives_then, four}
+use Rattle.cm_read.proofs.lemmas.ByTwos.{fails_then, gives_then, four}
 use Rattle.cm_read.proofs.environments.environment_row.Goals as goal
 
 pub returns-in_err-read : goal.returns-in_err-read

@@ -2,7 +2,7 @@ use Rattle.cm_plain.specs.JsonTree.{view}
 use Rattle.cm_read.specs.Words.{static_from_at}
 use Rattle.cm_read.specs.Items.{as_at}
 use Rattle.cm_read.specs.Environments.{registered_at}
-use Rattle.cm_read.proofs.ByTwos.{fails_then, reads_then, two}
+use Rattle.cm_read.proofs.lemmas.ByTwos.{fails_then, reads_then, two}
 use Rattle.cm_read.proofs.environments.registered.Goals as goal
 
 pub returns-in_err-read : goal.returns-in_err-read

@@ -1,6 +1,6 @@
 use Rattle.std.proofs.Common.{arith}
 use Rattle.std.proofs.lemmas.Str.Pattern.{strip_prefix_char}
-use Rattle.cm_read.proofs.reading.MarkLemmas.{behind}
+use Rattle.cm_read.proofs.lemmas.reading.Mark.{behind}
 use Rattle.cm_read.proofs.fields.behind_mark.Goals as goal
 
 pub returns : goal.returns

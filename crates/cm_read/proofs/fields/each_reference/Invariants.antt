@@ -1,7 +1,7 @@
 use Rattle.std.proofs.Common.{◌≡◌, drop}
 use Rattle.cm_read.specs.Fields.{each, reference_from}
 use Rattle.cm_read.specs.FieldsInside.{map_now}
-use Rattle.cm_read.proofs.RowLemmas.{with_prefix}
+use Rattle.cm_read.proofs.lemmas.Row.{with_prefix}
 use Rattle.cm_read.proofs.fields.each_reference.Given as goal
 
 abbrev pub invariant-loop-text : goal.invariant-loop-text

@@ -2,7 +2,7 @@ use Rattle.std.proofs.Common.{◌≡◌, drop, option_map}
 use Rattle.cm_plain.specs.JsonTree.{members_view}
 use Rattle.cm_read.specs.Fields.{unknown_in}
 use Rattle.cm_read.specs.FieldsInside.{map_now}
-use Rattle.cm_read.proofs.reading.Keys.{least_in}
+use Rattle.cm_read.proofs.lemmas.reading.Keys.{least_in}
 use Rattle.cm_read.proofs.fields.unknown_key.Given as goal
 
 abbrev pub invariant-loop-member : goal.invariant-loop-member

@@ -4,7 +4,7 @@ use Rattle.cm_read.specs.Fields.{subdir_at}
 use Rattle.cm_read.specs.Words.{given_availability_at, source_unknown_at}
 use Rattle.cm_read.specs.Items.{as_at, given_rights_at}
 use Rattle.cm_read.specs.Parts.{asked_at}
-use Rattle.cm_read.proofs.ByTwos.{fails_then, reads_then, six}
+use Rattle.cm_read.proofs.lemmas.ByTwos.{fails_then, reads_then, six}
 use Rattle.cm_read.proofs.gives.asked_of.Goals as goal
 
 pub returns-in_err-read : goal.returns-in_err-read

@@ -5,7 +5,7 @@ use Rattle.cm_read.specs.Fields.{subdir_at}
 use Rattle.cm_read.specs.Words.{given_availability_at, source_unknown_at, expose_from_at, expose_to_at}
 use Rattle.cm_read.specs.Items.{as_at, given_rights_at, give_row, exposed_at}
 use Rattle.cm_read.specs.Parts.{asked_with, asked_at, terms_by}
-use Rattle.cm_read.proofs.ByTwos.{fails_then, reads_then, two_and_asked}
+use Rattle.cm_read.proofs.lemmas.ByTwos.{fails_then, reads_then, two_and_asked}
 use Rattle.cm_read.proofs.gives.exposed.Goals as goal
 
 pub returns-in_err-read : goal.returns-in_err-read

@@ -5,7 +5,7 @@ use Rattle.cm_read.specs.Fields.{subdir_at}
 use Rattle.cm_read.specs.Words.{dependency_at, given_availability_at, source_unknown_at, offer_from_at}
 use Rattle.cm_read.specs.Items.{as_at, given_rights_at, targets_at, give_row, offer_rows, offered_at}
 use Rattle.cm_read.specs.Parts.{asked_with, asked_at, terms_by}
-use Rattle.cm_read.proofs.ByTwos.{fails_then, reads_then, two_and_asked}
+use Rattle.cm_read.proofs.lemmas.ByTwos.{fails_then, reads_then, two_and_asked}
 use Rattle.cm_read.proofs.gives.offered.Goals as goal
 
 pub returns-in_err-read : goal.returns-in_err-read

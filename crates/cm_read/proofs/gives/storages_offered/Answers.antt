@@ -1,7 +1,7 @@
 use Rattle.cm_plain.specs.JsonTree.{view}
 use Rattle.cm_read.specs.Words.{given_availability_at, storage_from_at}
 use Rattle.cm_read.specs.Items.{as_at, targets_at, storages_offered_at}
-use Rattle.cm_read.proofs.ByTwos.{fails_then, reads_then, four}
+use Rattle.cm_read.proofs.lemmas.ByTwos.{fails_then, reads_then, four}
 use Rattle.cm_read.proofs.gives.storages_offered.Goals as goal
 
 pub returns-in_err-read : goal.returns-in_err-read

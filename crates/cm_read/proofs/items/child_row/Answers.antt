@@ -3,7 +3,7 @@ use Rattle.cm_plain.specs.JsonTree.{view}
 use Rattle.cm_read.specs.Fields.{name_at, url_at}
 use Rattle.cm_read.specs.Words.{startup_at, environment_at}
 use Rattle.cm_read.specs.Items.{child_row_at}
-use Rattle.cm_read.proofs.ByTwos.{fails_then, gives_then, four}
+use Rattle.cm_read.proofs.lemmas.ByTwos.{fails_then, gives_then, four}
 use Rattle.cm_read.proofs.items.child_row.Goals as goal
 
 pub returns-in_err-read : goal.returns-in_err-read

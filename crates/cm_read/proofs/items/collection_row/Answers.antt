@@ -3,7 +3,7 @@ use Rattle.cm_plain.specs.JsonTree.{view}
 use Rattle.cm_read.specs.Fields.{name_at}
 use Rattle.cm_read.specs.Words.{durability_at, allowed_offers_at, environment_at}
 use Rattle.cm_read.specs.Items.{collection_row_at}
-use Rattle.cm_read.proofs.ByTwos.{fails_then, gives_then, four}
+use Rattle.cm_read.proofs.lemmas.ByTwos.{fails_then, gives_then, four}
 use Rattle.cm_read.proofs.items.collection_row.Goals as goal
 
 pub returns-in_err-read : goal.returns-in_err-read

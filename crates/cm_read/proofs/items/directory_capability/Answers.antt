@@ -2,7 +2,7 @@ use Rattle.std.proofs.Common.{codes}
 use Rattle.cm_plain.specs.JsonTree.{view}
 use Rattle.cm_read.specs.Fields.{path_at, rights_at}
 use Rattle.cm_read.specs.Items.{directory_name_at, directory_capability_at}
-use Rattle.cm_read.proofs.ByTwos.{fails_then, gives_then, three}
+use Rattle.cm_read.proofs.lemmas.ByTwos.{fails_then, gives_then, three}
 use Rattle.cm_read.proofs.items.directory_capability.Goals as goal
 
 pub returns-in_err-read : goal.returns-in_err-read

@@ -3,7 +3,7 @@ use Rattle.cm_plain.specs.JsonTree.{view}
 use Rattle.cm_read.specs.Fields.{path_at, rights_at, subdir_at}
 use Rattle.cm_read.specs.Words.{dependency_at, availability_at, use_from_at}
 use Rattle.cm_read.specs.Items.{directory_name_at, directory_use_at}
-use Rattle.cm_read.proofs.ByTwos.{fails_then, gives_then, seven}
+use Rattle.cm_read.proofs.lemmas.ByTwos.{fails_then, gives_then, seven}
 use Rattle.cm_read.proofs.items.directory_use.Goals as goal
 
 pub returns-in_err-read : goal.returns-in_err-read

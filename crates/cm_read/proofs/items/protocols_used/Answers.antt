@@ -1,7 +1,7 @@
 use Rattle.cm_plain.specs.JsonTree.{view}
 use Rattle.cm_read.specs.Words.{dependency_at, availability_at, use_source_at}
 use Rattle.cm_read.specs.Items.{protocol_path_at, protocols_used_at}
-use Rattle.cm_read.proofs.ByTwos.{fails_then, reads_then, four}
+use Rattle.cm_read.proofs.lemmas.ByTwos.{fails_then, reads_then, four}
 use Rattle.cm_read.proofs.items.protocols_used.Goals as goal
 
 pub returns-in_err-read : goal.returns-in_err-read

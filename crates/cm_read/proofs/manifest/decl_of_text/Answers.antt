@@ -1,8 +1,8 @@
 use Rattle.std.proofs.Common.{sym, subst}
 use Rattle.cm_plain.specs.JsonTree.{view}
 use Rattle.cm_read.specs.ReadingInside.{GivesReading}
-use Rattle.cm_read.proofs.TextLemmas.{relaxed_decl}
-use Rattle.cm_read.proofs.reading.DeclRead.{is_of_data}
+use Rattle.cm_read.proofs.lemmas.Text.{relaxed_decl}
+use Rattle.cm_read.proofs.lemmas.reading.DeclRead.{is_of_data}
 use Rattle.cm_read.proofs.manifest.decl_of_text.Goals as goal
 
 pub returns-in-Some-clause-decl : goal.returns-in-Some-clause-decl

@@ -1,7 +1,7 @@
 use Rattle.std.proofs.Common.{◌≡◌, drop}
 use Rattle.cm_plain.specs.JsonTree.{items_view}
 use Rattle.cm_read.specs.Sections.{rows_at}
-use Rattle.cm_read.proofs.RowLemmas.{with_prefix}
+use Rattle.cm_read.proofs.lemmas.Row.{with_prefix}
 use Rattle.cm_read.proofs.sections.rows_of.Given as goal
 
 abbrev pub invariant-loop-item : goal.invariant-loop-item

@@ -3,7 +3,7 @@ use Rattle.cm_plain.specs.JsonTree.{view}
 use Rattle.cm_read.specs.Fields.{subdir_at}
 use Rattle.cm_read.specs.Words.{static_from_at, storage_id_at}
 use Rattle.cm_read.specs.Items.{storage_name_at, backing_at, storage_at}
-use Rattle.cm_read.proofs.ByTwos.{fails_then, gives_then, five}
+use Rattle.cm_read.proofs.lemmas.ByTwos.{fails_then, gives_then, five}
 use Rattle.cm_read.proofs.storage.storage_capability.Goals as goal
 
 pub returns-in_err-read : goal.returns-in_err-read

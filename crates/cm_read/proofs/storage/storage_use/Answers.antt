@@ -3,7 +3,7 @@ use Rattle.cm_plain.specs.JsonTree.{view}
 use Rattle.cm_read.specs.Fields.{path_at}
 use Rattle.cm_read.specs.Words.{availability_at, storage_use_from_at}
 use Rattle.cm_read.specs.Items.{storage_name_at, storage_use_at}
-use Rattle.cm_read.proofs.ByTwos.{fails_then, gives_then, four}
+use Rattle.cm_read.proofs.lemmas.ByTwos.{fails_then, gives_then, four}
 use Rattle.cm_read.proofs.storage.storage_use.Goals as goal
 
 pub returns-in_err-read : goal.returns-in_err-read

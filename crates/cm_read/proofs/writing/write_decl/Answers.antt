@@ -1,6 +1,6 @@
 use Rattle.std.proofs.Common.{◌∙◌, string_bytes}
 use Rattle.serde_json.specs.View.{view}
-use Rattle.cm_read.proofs.back.PairLemmas.{text_is}
+use Rattle.cm_read.proofs.lemmas.back.Pair.{text_is}
 use Rattle.cm_read.proofs.writing.write_decl.Goals as goal
 
 pub returns-clause-text : goal.returns-clause-text

@@ -2,7 +2,7 @@ use Rattle.std.proofs.Common.{◌+◌, take, None, Some, sym, subst}
 use Rattle.std.proofs.lemmas.List.{take_rest}
 use Rattle.memchr.specs.Find.{FindsLastNeedle}
 use Rattle.cm_reply.specs.LinesInside.{IsCutAtLast}
-use Rattle.cm_reply.proofs.back.Arrows.{cut_last, no_arrow}
+use Rattle.cm_reply.proofs.lemmas.back.Arrows.{cut_last, no_arrow}
 use Rattle.cm_reply.proofs.entries.cut_at_arrow.Goals as goal
 
 pub returns-in_default : goal.returns-in_default

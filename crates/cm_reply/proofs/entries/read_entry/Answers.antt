@@ -1,6 +1,6 @@
 use Rattle.std.proofs.Common.{◌∙◌}
-use Rattle.cm_reply.proofs.back.Arrows.{entry_is, IsParted, parted, no_entry, fault_is, memory_is}
-use Rattle.cm_reply.proofs.back.Told.{line_found}
+use Rattle.cm_reply.proofs.lemmas.back.Arrows.{entry_is, IsParted, parted, no_entry, fault_is, memory_is}
+use Rattle.cm_reply.proofs.lemmas.back.Told.{line_found}
 use Rattle.cm_reply.proofs.entries.read_entry.Goals as goal
 
 pub returns-in_default-text_of-clause-fault : goal.returns-in_default-text_of-clause-fault

@@ -1,5 +1,5 @@
 use Rattle.std.proofs.Common.{sym, subst, IsUtf8, ◌∙◌}
-use Rattle.cm_reply.proofs.back.Declared.{decl_utf8, decl_one, decl_faults}
+use Rattle.cm_reply.proofs.lemmas.back.Declared.{decl_utf8, decl_one, decl_faults}
 use Rattle.cm_reply.proofs.entry_words.decl.Goals as goal
 
 pub returns-in_default-clause-finds : goal.returns-in_default-clause-finds

@@ -1,9 +1,9 @@
 use Rattle.std.proofs.Common.{sym, subst}
 use Rattle.cm_names.specs.Moniker.{IsMonikerTextOf}
 use Rattle.cm_names.specs.MonikerInside.{IsMonikerText}
-use Rattle.cm_names.proofs.texts.MonikerParts.{reads_one_way_lem, writes_its_text_lem}
-use Rattle.cm_reply.proofs.back.Created.{target_is}
-use Rattle.cm_reply.proofs.back.Cuts.{word_faults}
+use Rattle.cm_names.proofs.lemmas.texts.MonikerParts.{reads_one_way_lem, writes_its_text_lem}
+use Rattle.cm_reply.proofs.lemmas.back.Created.{target_is}
+use Rattle.cm_reply.proofs.lemmas.back.Cuts.{word_faults}
 use Rattle.cm_reply.proofs.entry_words.moniker.Goals as goal
 
 pub returns-in-Ok-clause-target : goal.returns-in-Ok-clause-target

@@ -1,6 +1,6 @@
 use Rattle.std.proofs.Common.{◌∙◌, sym, subst}
 use Rattle.cm_names.specs.Name.{IsName}
-use Rattle.cm_reply.proofs.back.Cuts.{word_faults}
+use Rattle.cm_reply.proofs.lemmas.back.Cuts.{word_faults}
 use Rattle.cm_reply.proofs.entry_words.name.Goals as goal
 
 pub returns-in-Ok-clause-finds : goal.returns-in-Ok-clause-finds

@@ -1,4 +1,4 @@
-use Rattle.cm_reply.proofs.back.Cuts.{number_is, number_faults}
+use Rattle.cm_reply.proofs.lemmas.back.Cuts.{number_is, number_faults}
 use Rattle.cm_reply.proofs.entry_words.number.Goals as goal
 
 pub returns-in-Ok-clause-finds : goal.returns-in-Ok-clause-finds

@@ -1,5 +1,5 @@
 use Rattle.std.proofs.Common.{decimal}
-use Rattle.cm_reply.proofs.back.Cuts.{word_cut, word_uncut, digits_lack}
+use Rattle.cm_reply.proofs.lemmas.back.Cuts.{word_cut, word_uncut, digits_lack}
 use Rattle.cm_reply.proofs.entry_words.numbered.Goals as goal
 
 pub returns-in_default-clause-finds : goal.returns-in_default-clause-finds

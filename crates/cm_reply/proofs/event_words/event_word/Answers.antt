@@ -1,6 +1,6 @@
 use Rattle.std.proofs.Common.{sym, ap, subst, ◌∙◌, IsUtf8}
 use Rattle.cm_reply.specs.EventWords.{event_named}
-use Rattle.cm_reply.proofs.back.Named.{word_utf8, event_found}
+use Rattle.cm_reply.proofs.lemmas.back.Named.{word_utf8, event_found}
 use Rattle.cm_reply.proofs.event_words.event_word.Goals as goal
 
 pub returns-in-Some : goal.returns-in-Some

@@ -1,4 +1,4 @@
-use Rattle.cm_reply.proofs.back.Named.{each_is_told_lem}
+use Rattle.cm_reply.proofs.lemmas.back.Named.{each_is_told_lem}
 use Rattle.cm_reply.proofs.laws.each_is_told.Goals as goal
 
 pub returns : goal.returns

@@ -1,4 +1,4 @@
-use Rattle.cm_reply.proofs.back.Told.{entries_read_one_way_lem}
+use Rattle.cm_reply.proofs.lemmas.back.Told.{entries_read_one_way_lem}
 use Rattle.cm_reply.proofs.laws.entries_read_one_way.Goals as goal
 
 pub returns : goal.returns

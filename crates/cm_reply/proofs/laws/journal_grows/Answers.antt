@@ -1,4 +1,4 @@
-use Rattle.cm_reply.proofs.Growing.{journal_begins_lem, journal_grows_lem}
+use Rattle.cm_reply.proofs.lemmas.Growing.{journal_begins_lem, journal_grows_lem}
 use Rattle.cm_reply.proofs.laws.journal_grows.Goals as goal
 
 pub returns-clause-begins : goal.returns-clause-begins

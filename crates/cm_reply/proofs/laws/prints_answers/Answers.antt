@@ -1,4 +1,4 @@
-use Rattle.cm_reply.proofs.Written.{prints_route, prints_directory, prints_forced, prints_created, prints_children, prints_look, prints_survey, prints_doctor, prints_stream, prints_failure}
+use Rattle.cm_reply.proofs.lemmas.Written.{prints_route, prints_directory, prints_forced, prints_created, prints_children, prints_look, prints_survey, prints_doctor, prints_stream, prints_failure}
 use Rattle.cm_reply.proofs.laws.prints_answers.Goals as goal
 
 pub returns-clause-route : goal.returns-clause-route

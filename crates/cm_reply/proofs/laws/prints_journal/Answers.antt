@@ -1,4 +1,4 @@
-use Rattle.cm_reply.proofs.Written.{prints_header, prints_entries}
+use Rattle.cm_reply.proofs.lemmas.Written.{prints_header, prints_entries}
 use Rattle.cm_reply.proofs.laws.prints_journal.Goals as goal
 
 pub returns-clause-header : goal.returns-clause-header

@@ -1,4 +1,4 @@
-use Rattle.cm_reply.proofs.Written.{prints_refusals, prints_reasons, prints_outcomes, prints_events, prints_replies, prints_short_answers}
+use Rattle.cm_reply.proofs.lemmas.Written.{prints_refusals, prints_reasons, prints_outcomes, prints_events, prints_replies, prints_short_answers}
 use Rattle.cm_reply.proofs.laws.prints_tables.Goals as goal
 
 pub returns-clause-refusals : goal.returns-clause-refusals

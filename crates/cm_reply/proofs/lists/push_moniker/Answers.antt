@@ -1,6 +1,6 @@
 use Rattle.std.proofs.Common.{OnOk, map, ap, ◌∙◌, subst}
 use Rattle.cm_reply.specs.ListsInside.{GainsText}
-use Rattle.cm_reply.proofs.Monikers.{moniker_so}
+use Rattle.cm_reply.proofs.lemmas.Monikers.{moniker_so}
 use Rattle.cm_reply.proofs.lists.push_moniker.Goals as goal
 
 pub returns-in-Some : goal.returns-in-Some

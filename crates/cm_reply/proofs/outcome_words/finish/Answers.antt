@@ -2,7 +2,7 @@ use Rattle.std.proofs.Common.{sym, ap, subst, ◌∙◌}
 use Rattle.cm_world.specs.declared.action.Finish.TheVariants.{Other}
 use Rattle.cm_reply.specs.Legible.{IsLegibleFinish}
 use Rattle.cm_reply.specs.Reading.{IsOr}
-use Rattle.cm_reply.proofs.back.Named.{IsResolved, resolved_is, IsEndedSo, other_is}
+use Rattle.cm_reply.proofs.lemmas.back.Named.{IsResolved, resolved_is, IsEndedSo, other_is}
 use Rattle.cm_reply.proofs.outcome_words.finish.Goals as goal
 
 pub returns-in-Some-clause-finds : goal.returns-in-Some-clause-finds

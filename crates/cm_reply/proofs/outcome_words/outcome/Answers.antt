@@ -2,7 +2,7 @@ use Rattle.std.proofs.Common.{sym, ap, subst, ◌∙◌}
 use Rattle.std.proofs.lemmas.Option.{same_Some, none-some}
 use Rattle.cm_world.specs.declared.action.Outcome.TheVariants.{Invalid}
 use Rattle.cm_reply.specs.Legible.{IsLegibleOutcome}
-use Rattle.cm_reply.proofs.back.Named.{IsInvalid, invalid_is, plain_is}
+use Rattle.cm_reply.proofs.lemmas.back.Named.{IsInvalid, invalid_is, plain_is}
 use Rattle.cm_reply.proofs.outcome_words.outcome.Goals as goal
 
 pub returns-in-Ok-clause-finds : goal.returns-in-Ok-clause-finds

@@ -1,8 +1,8 @@
 use Rattle.std.proofs.Common.{decimal, ap₂, sym, ◌∙◌}
 use Rattle.std.proofs.lemmas.Option.{same_Some, none-some}
 use Rattle.cm_decl.specs.Words.{section_word}
-use Rattle.cm_reply.proofs.back.Cuts.{word_cut, word_uncut}
-use Rattle.cm_reply.proofs.back.Named.{section_lacks}
+use Rattle.cm_reply.proofs.lemmas.back.Cuts.{word_cut, word_uncut}
+use Rattle.cm_reply.proofs.lemmas.back.Named.{section_lacks}
 use Rattle.cm_reply.proofs.outcome_words.place.Goals as goal
 
 pub returns-in_default-clause-finds : goal.returns-in_default-clause-finds

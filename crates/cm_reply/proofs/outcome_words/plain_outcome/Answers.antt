@@ -1,6 +1,6 @@
 use Rattle.std.proofs.Common.{sym, ap, subst, ◌∙◌, IsUtf8}
 use Rattle.cm_reply.specs.Reading.{outcome_named}
-use Rattle.cm_reply.proofs.back.Named.{outcome_utf8, outcome_found}
+use Rattle.cm_reply.proofs.lemmas.back.Named.{outcome_utf8, outcome_found}
 use Rattle.cm_reply.proofs.outcome_words.plain_outcome.Goals as goal
 
 pub returns-in-Some-clause-finds : goal.returns-in-Some-clause-finds

@@ -1,8 +1,8 @@
 use Rattle.std.proofs.Common.{ap₂}
 use Rattle.cm_read.specs.Writing.{decl_text}
 use Rattle.cm_world.specs.declared.action.Finish.TheVariants.{Resolved}
-use Rattle.cm_command.proofs.line.SpacelessWords.{url_lacks}
-use Rattle.cm_reply.proofs.back.Cuts.{word_cut, word_uncut}
+use Rattle.cm_command.proofs.lemmas.line.SpacelessWords.{url_lacks}
+use Rattle.cm_reply.proofs.lemmas.back.Cuts.{word_cut, word_uncut}
 use Rattle.cm_reply.proofs.outcome_words.resolved.Goals as goal
 
 pub returns-in_default-clause-finds : goal.returns-in_default-clause-finds

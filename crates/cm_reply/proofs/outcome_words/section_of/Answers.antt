@@ -1,6 +1,6 @@
 use Rattle.std.proofs.Common.{sym, ap, subst, ◌∙◌, IsUtf8}
 use Rattle.cm_reply.specs.Reading.{section_named}
-use Rattle.cm_reply.proofs.back.Named.{section_utf8, section_found}
+use Rattle.cm_reply.proofs.lemmas.back.Named.{section_utf8, section_found}
 use Rattle.cm_reply.proofs.outcome_words.section_of.Goals as goal
 
 pub returns-in-Some : goal.returns-in-Some

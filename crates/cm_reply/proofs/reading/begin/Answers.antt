@@ -1,8 +1,8 @@
 use Rattle.std.proofs.Common.{decimal, ap₂}
 use Rattle.cm_world.specs.declared.event.Event.TheVariants.{Begin}
 use Rattle.cm_reply.specs.States.{act_word}
-use Rattle.cm_reply.proofs.back.Cuts.{word_cut, word_uncut}
-use Rattle.cm_reply.proofs.back.Named.{kind_lacks}
+use Rattle.cm_reply.proofs.lemmas.back.Cuts.{word_cut, word_uncut}
+use Rattle.cm_reply.proofs.lemmas.back.Named.{kind_lacks}
 use Rattle.cm_reply.proofs.reading.begin.Goals as goal
 
 pub returns-in_default-clause-finds : goal.returns-in_default-clause-finds

@@ -1,5 +1,5 @@
 use Rattle.cm_reply.specs.declared.event_words.EventWord.TheVariants as word
-use Rattle.cm_reply.proofs.back.Named.{finds_same}
+use Rattle.cm_reply.proofs.lemmas.back.Named.{finds_same}
 use Rattle.cm_reply.proofs.reading.behind.Goals as goal
 
 pub returns-in-Find-clause-finds : goal.returns-in-Find-clause-finds

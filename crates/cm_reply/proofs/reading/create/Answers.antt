@@ -1,7 +1,7 @@
 use Rattle.std.proofs.Common.{sym, subst, ◌∙◌, codes, ◌++◌}
 use Rattle.cm_world.specs.declared.event.Target.TheVariants.{Inc}
 use Rattle.cm_command.specs.Grammar.{CommandText}
-use Rattle.cm_reply.proofs.back.Created.{command_of, told_created, created_is_legible, created_found}
+use Rattle.cm_reply.proofs.lemmas.back.Created.{command_of, told_created, created_is_legible, created_found}
 use Rattle.cm_reply.proofs.reading.create.Goals as goal
 
 pub returns-in-Err-clause-finds : goal.returns-in-Err-clause-finds

@@ -1,8 +1,8 @@
 use Rattle.std.proofs.Common.{◌≡◌, ◌++◌, codes, subst, sym, ap, ap₂, ◌∙◌}
 use Rattle.cm_command.specs.declared.command.CommandFault.TheVariants.{BadCommand}
 use Rattle.cm_command.specs.Grammar.{CommandText, IsCommandFault}
-use Rattle.cm_command.proofs.line.LineGrammar.{reads_one_way_lem}
-use Rattle.cm_reply.proofs.back.Created.{not_memory}
+use Rattle.cm_command.proofs.lemmas.line.LineGrammar.{reads_one_way_lem}
+use Rattle.cm_reply.proofs.lemmas.back.Created.{not_memory}
 use Rattle.cm_reply.proofs.reading.created_by.Goals as goal
 
 pub returns-in-Ok-clause-finds : goal.returns-in-Ok-clause-finds

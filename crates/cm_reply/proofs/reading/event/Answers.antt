@@ -3,8 +3,8 @@ use Rattle.std.proofs.lemmas.Option.{same_Some, none-some}
 use Rattle.cm_reply.specs.Legible.{IsLegible}
 use Rattle.cm_reply.specs.EventWords.{IsTold, word_of, told_text}
 use Rattle.cm_reply.specs.Reading.{IsOr}
-use Rattle.cm_reply.proofs.back.Cuts.{word_cut, word_uncut}
-use Rattle.cm_reply.proofs.back.Named.{word_lacks, each_is_told_lem, found_by}
+use Rattle.cm_reply.proofs.lemmas.back.Cuts.{word_cut, word_uncut}
+use Rattle.cm_reply.proofs.lemmas.back.Named.{word_lacks, each_is_told_lem, found_by}
 use Rattle.cm_reply.proofs.reading.event.Goals as goal
 
 pub returns-in_default-clause-finds : goal.returns-in_default-clause-finds

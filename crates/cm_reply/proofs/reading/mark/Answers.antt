@@ -1,8 +1,8 @@
 use Rattle.std.proofs.Common.{decimal, ap₂}
 use Rattle.cm_world.specs.declared.event.Event.TheVariants.{Mark}
 use Rattle.cm_reply.specs.Events.{mark_word}
-use Rattle.cm_reply.proofs.back.Cuts.{word_cut, word_uncut}
-use Rattle.cm_reply.proofs.back.Named.{mark_lacks}
+use Rattle.cm_reply.proofs.lemmas.back.Cuts.{word_cut, word_uncut}
+use Rattle.cm_reply.proofs.lemmas.back.Named.{mark_lacks}
 use Rattle.cm_reply.proofs.reading.mark.Goals as goal
 
 pub returns-in_default-clause-finds : goal.returns-in_default-clause-finds

@@ -1,5 +1,5 @@
 use Rattle.std.proofs.Common.{◌≡◌, ◌-◌, true, refl, sym, ap, ◌∙◌, take, arith, rules}
-use Rattle.cm_repo.proofs.UrlLemmas.{prefix_cut, is_prefix_of}
+use Rattle.cm_repo.proofs.lemmas.Url.{prefix_cut, is_prefix_of}
 use Rattle.cm_repo.proofs.urls.prefix_of.Goals as goal
 
 pub range-requires-clause-end_boundary : goal.range-requires-clause-end_boundary

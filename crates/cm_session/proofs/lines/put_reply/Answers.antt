@@ -1,7 +1,7 @@
 use Rattle.std.proofs.Common.{refl}
 use Rattle.cm_session.specs.declared.ended.Ended.TheVariants as ended
-use Rattle.cm_session.proofs.spoken.Order.{put-last, put-ordered}
-use Rattle.cm_session.proofs.spoken.Sessions.{put-prefix}
+use Rattle.cm_session.proofs.lemmas.spoken.Order.{put-last, put-ordered}
+use Rattle.cm_session.proofs.lemmas.spoken.Sessions.{put-prefix}
 use Rattle.cm_session.proofs.lines.put_reply.Goals as goal
 
 pub returns-then-wanting-clause-wrote : goal.returns-then-wanting-clause-wrote

@@ -1,6 +1,6 @@
 use Rattle.std.proofs.Common.{sym, ◌∙◌}
-use Rattle.cm_session.proofs.spoken.Callers.{same_caller}
-use Rattle.cm_session.proofs.spoken.Sessions.{session-none, session-over}
+use Rattle.cm_session.proofs.lemmas.spoken.Callers.{same_caller}
+use Rattle.cm_session.proofs.lemmas.spoken.Sessions.{session-none, session-over}
 use Rattle.cm_session.proofs.lines.serve.Goals as goal
 use Rattle.cm_session.proofs.lines.serve.Goals.{in-Ok, in-Err}
 

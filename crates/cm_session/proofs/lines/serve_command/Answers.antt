@@ -1,7 +1,7 @@
 use Rattle.std.proofs.Common.{rules, ◌≡◌}
 use Rattle.cm_reply.specs.Journal.{line}
 use Rattle.cm_reply.specs.Answers.{reply_text}
-use Rattle.cm_session.proofs.spoken.Sessions.{command-lost, command-put}
+use Rattle.cm_session.proofs.lemmas.spoken.Sessions.{command-lost, command-put}
 use Rattle.cm_session.proofs.lines.serve_command.Goals as goal
 use Rattle.cm_session.proofs.lines.serve_command.Goals.{in-Ok, in-Err}
 

@@ -1,6 +1,6 @@
 use Rattle.std.proofs.Common.{rules, ◌≡◌}
 use Rattle.cm_command.specs.declared.command.CommandFault.TheVariants.{BadCommand}
-use Rattle.cm_session.proofs.spoken.Sessions.{bad-fault, line-bad, line-command}
+use Rattle.cm_session.proofs.lemmas.spoken.Sessions.{bad-fault, line-bad, line-command}
 use Rattle.cm_session.proofs.lines.serve_line.Goals as goal
 
 pub returns-in-Ok-clause-served : goal.returns-in-Ok-clause-served

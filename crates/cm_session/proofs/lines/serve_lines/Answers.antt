@@ -1,9 +1,9 @@
 use Rattle.std.proofs.Common.{rules, ◌≡◌, ap, None, arith}
 use Rattle.cm_io.specs.LinesInside.{Reader}
-use Rattle.cm_manager.proofs.callers.CallerRuns.{caller_trans}
+use Rattle.cm_manager.proofs.lemmas.callers.CallerRuns.{caller_trans}
 use Rattle.cm_session.specs.Session.{most_lines}
-use Rattle.cm_session.proofs.spoken.Callers.{same_caller, stepped_by}
-use Rattle.cm_session.proofs.spoken.Sessions.{going-ends, going-more, going-none, going-spent}
+use Rattle.cm_session.proofs.lemmas.spoken.Callers.{same_caller, stepped_by}
+use Rattle.cm_session.proofs.lemmas.spoken.Sessions.{going-ends, going-more, going-none, going-spent}
 use Rattle.cm_session.proofs.lines.serve_lines.Goals as goal
 
 pub loop-line-init : goal.loop-line-init

@@ -1,6 +1,6 @@
 use Rattle.cm_manager.specs.Caller.{IsSameCaller}
 use Rattle.cm_session.specs.Links.{view_of}
-use Rattle.cm_session.proofs.spoken.Sessions.{Going}
+use Rattle.cm_session.proofs.lemmas.spoken.Sessions.{Going}
 use Rattle.cm_session.proofs.lines.serve_lines.Given as goal
 
 abbrev pub invariant-loop-line : goal.invariant-loop-line

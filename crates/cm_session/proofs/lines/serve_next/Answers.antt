@@ -1,7 +1,7 @@
 use Rattle.std.proofs.Common.{rules, sym, ◌∙◌, ap, inl, Some}
 use Rattle.cm_session.specs.declared.ended.Ended.TheVariants as ended
-use Rattle.cm_session.proofs.spoken.Callers.{same_caller}
-use Rattle.cm_session.proofs.spoken.Sessions.{line-step, long-step, quit-step, silent-step}
+use Rattle.cm_session.proofs.lemmas.spoken.Callers.{same_caller}
+use Rattle.cm_session.proofs.lemmas.spoken.Sessions.{line-step, long-step, quit-step, silent-step}
 use Rattle.cm_session.proofs.lines.serve_next.Goals as goal
 
 pub returns-else-eq : goal.returns-else-eq

@@ -1,6 +1,6 @@
 use Rattle.std.proofs.Common.{Some, ap, map, sym, ◌∙◌}
 use Rattle.std.proofs.lemmas.List.{length-map}
-use Rattle.cm_manager.proofs.desked.Moving.{all_moved, fits_still, moved_as, shorter}
+use Rattle.cm_manager.proofs.lemmas.desked.Moving.{all_moved, fits_still, moved_as, shorter}
 use Rattle.cm_session.specs.declared.workers.DoorWork.{DoorWork}
 use Rattle.cm_session.proofs.pool.make_works.Goals as goal
 

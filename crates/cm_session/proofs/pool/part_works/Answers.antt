@@ -1,6 +1,6 @@
 use Rattle.std.proofs.Common.{◌∷◌, Some, ap, map, ◌∙◌}
 use Rattle.std.proofs.lemmas.List.Elements.{All-rest}
-use Rattle.cm_manager.proofs.desked.Moving.{fits_still, moved, moved_as}
+use Rattle.cm_manager.proofs.lemmas.desked.Moving.{fits_still, moved, moved_as}
 use Rattle.cm_session.specs.PoolParts.{HasDoorPass}
 use Rattle.cm_session.specs.declared.workers.DoorWork.{DoorWork}
 use Rattle.cm_session.proofs.pool.part_works.Goals as goal

@@ -1,4 +1,4 @@
-use Rattle.cm_session.proofs.links.Putting.{gathering_none, gathering_room, gathering_more, gathering_all}
+use Rattle.cm_session.proofs.lemmas.links.Putting.{gathering_none, gathering_room, gathering_more, gathering_all}
 use Rattle.std.proofs.Common.{◌∙◌, sym}
 use Rattle.cm_session.proofs.serving.all_links.Goals as goal
 

@@ -1,5 +1,5 @@
 use Rattle.std.proofs.Common.{vec_capacity}
-use Rattle.cm_session.proofs.links.Putting.{Gathering}
+use Rattle.cm_session.proofs.lemmas.links.Putting.{Gathering}
 use Rattle.cm_session.proofs.serving.all_links.Given as goal
 
 abbrev pub invariant-loop-part : goal.invariant-loop-part

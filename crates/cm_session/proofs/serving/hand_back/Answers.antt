@@ -1,7 +1,7 @@
 use Rattle.std.proofs.Common.{◌∙◌, List, sym, subst}
 use Rattle.cm_turn.specs.Passes.{AreAll}
 use Rattle.cm_session.specs.Doorway.{DoorPass}
-use Rattle.cm_session.proofs.ends.Closed.{fit_closed, closed_door}
+use Rattle.cm_session.proofs.lemmas.ends.Closed.{fit_closed, closed_door}
 use Rattle.cm_session.proofs.serving.hand_back.Goals as goal
 
 pub close-doorway-requires : goal.close-doorway-requires

@@ -1,4 +1,4 @@
-use Rattle.cm_session.proofs.links.Putting.{putting_none, putting_room, putting_more, putting_all}
+use Rattle.cm_session.proofs.lemmas.links.Putting.{putting_none, putting_room, putting_more, putting_all}
 use Rattle.std.proofs.Common.{◌∙◌, ◌<◌, ℕ, sym, subst, vec_capacity}
 use Rattle.cm_session.proofs.serving.put_links.Goals as goal
 

@@ -1,5 +1,5 @@
 use Rattle.std.proofs.Common.{vec_capacity}
-use Rattle.cm_session.proofs.links.Putting.{Putting}
+use Rattle.cm_session.proofs.lemmas.links.Putting.{Putting}
 use Rattle.cm_session.proofs.serving.put_links.Given as goal
 
 abbrev pub invariant-loop-link : goal.invariant-loop-link

@@ -1,9 +1,9 @@
 use Rattle.std.proofs.Common.{ℕ, subst, sym, vec_capacity}
 use Rattle.cm_manager.specs.Desks.{DeskPartsHaveRoom}
 use Rattle.cm_session.specs.Links.{view_of}
-use Rattle.cm_session.proofs.ends.Coming.{closing_ready, comes, comes_not}
+use Rattle.cm_session.proofs.lemmas.ends.Coming.{closing_ready, comes, comes_not}
 use Rattle.cm_session.specs.PoolParts.{DoorPartsHaveRoom}
-use Rattle.cm_session.proofs.ends.Ending.{have_passes, made_of, ready_all, sixteen_left}
+use Rattle.cm_session.proofs.lemmas.ends.Ending.{have_passes, made_of, ready_all, sixteen_left}
 use Rattle.cm_session.proofs.serving.serve_sessions.Goals as goal
 
 pub returns-in_default : goal.returns-in_default

@@ -1,4 +1,4 @@
-use Rattle.cm_session.proofs.ends.Ending.{pool_worked}
+use Rattle.cm_session.proofs.lemmas.ends.Ending.{pool_worked}
 use Rattle.cm_session.proofs.workers.run_all.Goals as goal
 
 pub returns : goal.returns

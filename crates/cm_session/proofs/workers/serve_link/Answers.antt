@@ -1,5 +1,5 @@
 use Rattle.std.proofs.Common.{arith, refl}
-use Rattle.cm_session.proofs.work.Going.{served_in_place}
+use Rattle.cm_session.proofs.lemmas.work.Going.{served_in_place}
 use Rattle.cm_session.proofs.workers.serve_link.Goals as goal
 
 pub returns-clause-served : goal.returns-clause-served

@@ -1,7 +1,7 @@
 use Rattle.std.proofs.Common.{◌∙◌, Some, ap}
-use Rattle.cm_manager.proofs.callers.CallerRuns.{caller_trans}
-use Rattle.cm_session.proofs.spoken.Callers.{same_caller, link_served_by}
-use Rattle.cm_session.proofs.work.Going.{going_none, on_closed, on_failed, on_room, on_served, on_lost, on_over}
+use Rattle.cm_manager.proofs.lemmas.callers.CallerRuns.{caller_trans}
+use Rattle.cm_session.proofs.lemmas.spoken.Callers.{same_caller, link_served_by}
+use Rattle.cm_session.proofs.lemmas.work.Going.{going_none, on_closed, on_failed, on_room, on_served, on_lost, on_over}
 use Rattle.cm_session.proofs.workers.serve_links.Goals as goal
 
 pub loop-init : goal.loop-init

@@ -1,7 +1,7 @@
 use Rattle.std.proofs.Common.{vec_capacity}
 use Rattle.cm_manager.specs.Caller.{IsSameCaller}
 use Rattle.cm_session.specs.Links.{view_of}
-use Rattle.cm_session.proofs.work.Going.{Going}
+use Rattle.cm_session.proofs.lemmas.work.Going.{Going}
 use Rattle.cm_session.proofs.workers.serve_links.Given as goal
 
 abbrev pub invariant-loop : goal.invariant-loop

@@ -1,7 +1,7 @@
 use Rattle.std.proofs.Common.{rules}
 use Rattle.cm_session.specs.Links.{view_of}
 use Rattle.cm_session.specs.Pool.{ServesLinks}
-use Rattle.cm_session.proofs.spoken.Callers.{made_and_parted}
+use Rattle.cm_session.proofs.lemmas.spoken.Callers.{made_and_parted}
 use Rattle.cm_session.proofs.workers.serve_own.Goals as goal
 
 pub returns : goal.returns

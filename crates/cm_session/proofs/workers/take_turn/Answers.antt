@@ -1,4 +1,4 @@
-use Rattle.cm_session.proofs.links.Accepts.{turn_adds_to, turn_by}
+use Rattle.cm_session.proofs.lemmas.links.Accepts.{turn_adds_to, turn_by}
 use Rattle.cm_session.proofs.workers.take_turn.Goals as goal
 
 pub leave-requires-clause-entries : goal.leave-requires-clause-entries

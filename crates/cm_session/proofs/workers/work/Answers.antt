@@ -1,5 +1,5 @@
 use Rattle.std.proofs.Common.{◌∙◌, sym, refl}
-use Rattle.cm_session.proofs.work.Working.{ready_lock, ready_new, ready_pass, ready_room, worked_idle, worked_served}
+use Rattle.cm_session.proofs.lemmas.work.Working.{ready_lock, ready_new, ready_pass, ready_room, worked_idle, worked_served}
 use Rattle.cm_session.proofs.workers.work.Goals as goal
 
 pub returns-then-is_idle : goal.returns-then-is_idle

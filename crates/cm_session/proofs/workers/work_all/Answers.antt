@@ -6,8 +6,8 @@ use denote.Param.Send.{IsSend, sendable, param_sync, arg_sync, shr_sync}
 use denote.Struct.Declared as struct
 use Rattle.std.proofs.Crossing.{Vec-send, crosses}
 use Rattle.std.proofs.alloc.Global.TheSendSync as global
-use Rattle.cm_manager.proofs.Crossing.{manager_sync}
-use Rattle.cm_session.proofs.Captures.{five_sync}
+use Rattle.cm_manager.proofs.lemmas.Crossing.{manager_sync}
+use Rattle.cm_session.proofs.lemmas.Captures.{five_sync}
 use Rattle.cm_session.proofs.doorway.Accepted.TheSendSync as accepted
 use Rattle.cm_session.proofs.workers.work_all.Goals as goal
 use Rattle.cm_session.specs.contracts.doorway.Accepted

@@ -1,5 +1,5 @@
 use Rattle.std.proofs.Common.{sym, ◌∙◌}
-use Rattle.cm_cache.proofs.histories.Going.{kept_are_found}
+use Rattle.cm_cache.proofs.lemmas.histories.Going.{kept_are_found}
 use Rattle.cm_steps.proofs.asking.answer.Goals as goal
 
 pub returns-in-Some-clause-walked : goal.returns-in-Some-clause-walked

@@ -1,7 +1,7 @@
 use Rattle.std.proofs.Common.{sym, ◌∙◌, subst, inl, inr}
 use Rattle.cm_facts.proofs.Booleans.{false_iff}
 use Rattle.cm_order.specs.Picking.{IsPicked}
-use Rattle.cm_steps.proofs.actions.Enabled.{always_so, not_closing, waiting, can_pick}
+use Rattle.cm_steps.proofs.lemmas.actions.Enabled.{always_so, not_closing, waiting, can_pick}
 use Rattle.cm_steps.proofs.enabling.has_pick.Goals as goal
 
 pub returns-then-not-may_close : goal.returns-then-not-may_close

@@ -1,7 +1,7 @@
 use Rattle.std.proofs.Common.{sym, ◌∙◌, ap}
 use Rattle.cm_world.specs.declared.view.Facts.{Facts}
-use Rattle.cm_walk.proofs.ways.Up.{told}
-use Rattle.cm_steps.proofs.actions.Enabled.{dead_is, begin_gone, begin_dead, begin_by}
+use Rattle.cm_walk.proofs.lemmas.ways.Up.{told}
+use Rattle.cm_steps.proofs.lemmas.actions.Enabled.{dead_is, begin_gone, begin_dead, begin_by}
 use Rattle.cm_steps.proofs.enabling.may_begin.Goals as goal
 
 pub returns-then-is_gone : goal.returns-then-is_gone

@@ -1,8 +1,8 @@
 use Rattle.std.proofs.Common.{sym, ◌∙◌}
 use Rattle.cm_world.specs.Rows.{has_parent}
-use Rattle.cm_walk.proofs.descents.Behind.{left_falls}
-use Rattle.cm_steps.proofs.expiries.Dooming.{up_first}
-use Rattle.cm_steps.proofs.expiries.Goers.{still_more, none_left, child_found}
+use Rattle.cm_walk.proofs.lemmas.descents.Behind.{left_falls}
+use Rattle.cm_steps.proofs.lemmas.expiries.Dooming.{up_first}
+use Rattle.cm_steps.proofs.lemmas.expiries.Goers.{still_more, none_left, child_found}
 use Rattle.cm_steps.proofs.expiring.child_goes.Goals as goal
 
 pub next-init : goal.next-init

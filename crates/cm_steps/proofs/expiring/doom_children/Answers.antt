@@ -4,8 +4,8 @@ use Rattle.cm_world.specs.Rows.{has_parent}
 use Rattle.cm_table.specs.Tree.{Tree}
 use Rattle.cm_table.specs.Change.{with_changed}
 use Rattle.cm_steps.specs.Expiring.{doomed_if_dynamic}
-use Rattle.cm_walk.proofs.descents.Behind.{left_falls}
-use Rattle.cm_steps.proofs.expiries.Dooming.{up_first, up_more, up_all, next_before}
+use Rattle.cm_walk.proofs.lemmas.descents.Behind.{left_falls}
+use Rattle.cm_steps.proofs.lemmas.expiries.Dooming.{up_first, up_more, up_all, next_before}
 use Rattle.cm_steps.proofs.expiring.doom_children.Goals as goal
 
 pub next-init : goal.next-init

@@ -1,7 +1,7 @@
 use Rattle.std.proofs.Common.{◌≡◌}
 use Rattle.cm_world.specs.Rows.{has_parent}
-use Rattle.cm_steps.proofs.expiries.Dooming.{doomed_up_to}
-use Rattle.cm_walk.proofs.descents.Behind.{left}
+use Rattle.cm_steps.proofs.lemmas.expiries.Dooming.{doomed_up_to}
+use Rattle.cm_walk.proofs.lemmas.descents.Behind.{left}
 use Rattle.cm_steps.proofs.expiring.doom_children.Given as goal
 
 -- the children up to the last one seen are doomed

@@ -1,7 +1,7 @@
 use Rattle.std.proofs.Common.{List, sym, ap, ◌∙◌}
 use Rattle.cm_world.specs.declared.row.Row.{Row}
 use Rattle.cm_table.specs.Tree.{Tree}
-use Rattle.cm_steps.proofs.expiries.Dooming.{doomed_there, undoomed_there}
+use Rattle.cm_steps.proofs.lemmas.expiries.Dooming.{doomed_there, undoomed_there}
 use Rattle.cm_steps.proofs.expiring.doom_dynamic.Goals as goal
 
 pub returns-then-may_go : goal.returns-then-may_go

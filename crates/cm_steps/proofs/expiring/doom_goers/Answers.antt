@@ -1,7 +1,7 @@
 use Rattle.std.proofs.Common.{List, sym, ap, ◌∙◌}
 use Rattle.cm_world.specs.declared.row.Row.{Row}
 use Rattle.cm_table.specs.Tree.{Tree}
-use Rattle.cm_steps.proofs.expiries.Dooming.{expired_closed, expired_once}
+use Rattle.cm_steps.proofs.lemmas.expiries.Dooming.{expired_closed, expired_once}
 use Rattle.cm_steps.proofs.expiring.doom_goers.Goals as goal
 
 pub returns-then-is_closed : goal.returns-then-is_closed

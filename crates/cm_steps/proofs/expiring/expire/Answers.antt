@@ -1,7 +1,7 @@
 use Rattle.std.proofs.Common.{List, sym, ap, ◌∙◌}
 use Rattle.cm_world.specs.declared.row.Row.{Row}
 use Rattle.cm_table.specs.Tree.{Tree}
-use Rattle.cm_steps.proofs.expiries.Goers.{none_expired}
+use Rattle.cm_steps.proofs.lemmas.expiries.Goers.{none_expired}
 use Rattle.cm_steps.proofs.expiring.expire.Goals as goal
 
 pub returns-else-goes-clause-rows : goal.returns-else-goes-clause-rows

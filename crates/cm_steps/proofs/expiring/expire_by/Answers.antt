@@ -2,7 +2,7 @@ use Rattle.std.proofs.Common.{List, sym, ap}
 use Rattle.cm_world.specs.declared.row.Row.{Row}
 use Rattle.cm_world.specs.Expiring.{is_stopped}
 use Rattle.cm_table.specs.Tree.{Tree}
-use Rattle.cm_steps.proofs.expiries.Goers.{none_stopped, same_stopped}
+use Rattle.cm_steps.proofs.lemmas.expiries.Goers.{none_stopped, same_stopped}
 use Rattle.cm_steps.proofs.expiring.expire_by.Goals as goal
 
 pub returns-then-closing-clause-goes : goal.returns-then-closing-clause-goes

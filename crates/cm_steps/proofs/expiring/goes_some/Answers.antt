@@ -1,5 +1,5 @@
 use Rattle.std.proofs.Common.{sym, ◌∙◌}
-use Rattle.cm_steps.proofs.expiries.Goers.{closed_none, once_goes, children_go}
+use Rattle.cm_steps.proofs.lemmas.expiries.Goers.{closed_none, once_goes, children_go}
 use Rattle.cm_steps.proofs.expiring.goes_some.Goals as goal
 
 pub returns-then-is_closed : goal.returns-then-is_closed

@@ -1,7 +1,7 @@
 use Rattle.std.proofs.Common.{◌≡◌, ◌==◌, false, ◌∙◌, sym, subst}
 use Rattle.std.specs.Prelude.{IfNone, All}
 use Rattle.cm_world.specs.declared.action.Act.{Act}
-use Rattle.cm_steps.proofs.actions.Numbered.{find_none, find_some}
+use Rattle.cm_steps.proofs.lemmas.actions.Numbered.{find_none, find_some}
 use Rattle.cm_steps.proofs.pending.act_at.Goals as goal
 
 pub returns-in-None : goal.returns-in-None

@@ -1,6 +1,6 @@
 use Rattle.std.proofs.Common.{◌<◌, ◌≤◌, ◌==◌, length, sym, arith}
 use Rattle.cm_world.specs.declared.action.Act.{Act}
-use Rattle.cm_steps.proofs.actions.Numbered.{no_place, others_there, not_zero, not_above, place_of}
+use Rattle.cm_steps.proofs.lemmas.actions.Numbered.{no_place, others_there, not_zero, not_above, place_of}
 use Rattle.cm_steps.proofs.pending.act_place.Goals as goal
 
 pub returns-then-action-eq0-clause-place : goal.returns-then-action-eq0-clause-place

@@ -2,7 +2,7 @@ use Rattle.std.proofs.Common.{◌≡◌, ◌∙◌, ap, subst}
 use Rattle.std.specs.List.{position}
 use Rattle.cm_world.specs.Edits.{drop_first}
 use Rattle.cm_world.specs.Step.{is_join}
-use Rattle.cm_table.proofs.lists.Drops.{removed, unremoved}
+use Rattle.cm_table.proofs.lemmas.lists.Drops.{removed, unremoved}
 use Rattle.cm_steps.proofs.pending.take_join.Goals as goal
 
 pub returns-in-None : goal.returns-in-None

@@ -1,6 +1,6 @@
 use Rattle.std.proofs.Common.{◌∙◌, sym, arith}
 use Rattle.cm_world.specs.declared.action.Outcome.TheVariants.{Full}
-use Rattle.cm_steps.proofs.actions.Ends.{one_left, same_left}
+use Rattle.cm_steps.proofs.lemmas.actions.Ends.{one_left, same_left}
 use Rattle.cm_steps.proofs.rooms.resolves_left.Goals as goal
 
 pub returns-then-not-resolves_at : goal.returns-then-not-resolves_at

@@ -1,5 +1,5 @@
 use Rattle.std.proofs.Common.{◌||◌, ◌∙◌, ap₂}
-use Rattle.cm_walk.proofs.ways.Up.{gone_none, closed_none, gone_above, shut_told}
+use Rattle.cm_walk.proofs.lemmas.ways.Up.{gone_none, closed_none, gone_above, shut_told}
 use Rattle.cm_steps.proofs.standing.standing_of.Goals as goal
 
 pub returns-in-None-clause-gone : goal.returns-in-None-clause-gone

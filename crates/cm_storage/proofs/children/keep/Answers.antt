@@ -1,5 +1,5 @@
 use Rattle.std.proofs.Common.{refl}
-use Rattle.cm_storage.proofs.Lines.{keeps}
+use Rattle.cm_storage.proofs.lemmas.Lines.{keeps}
 use Rattle.cm_storage.proofs.children.keep.Goals as goal
 
 pub returns : goal.returns

@@ -3,7 +3,7 @@ use Rattle.std.specs.Prelude.{codes}
 use Rattle.cm_names.specs.Child.{child_text}
 use Rattle.cm_reply.specs.ListsInside.{GainsText}
 use Rattle.std.specs.Option.{option_copied}
-use Rattle.cm_storage.proofs.Lines.{line_told}
+use Rattle.cm_storage.proofs.lemmas.Lines.{line_told}
 use Rattle.cm_storage.proofs.children.push_child_use.Goals as goal
 
 pub returns-clause-told : goal.returns-clause-told

@@ -1,8 +1,8 @@
 use Rattle.std.proofs.Common.{subst}
 use Rattle.cm_storage.specs.Report.{UsesTold, no_use}
 use Rattle.cm_storage.specs.Telling.{TellsUses}
-use Rattle.cm_storage.proofs.Telling.{told_whole, use_told}
-use Rattle.cm_storage.proofs.Lines.{stays_on}
+use Rattle.cm_storage.proofs.lemmas.Telling.{told_whole, use_told}
+use Rattle.cm_storage.proofs.lemmas.Lines.{stays_on}
 use Rattle.cm_storage.proofs.children.push_child_uses.Goals as goal
 
 pub loop-usage-preserved : goal.loop-usage-preserved

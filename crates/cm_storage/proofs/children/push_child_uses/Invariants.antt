@@ -1,6 +1,6 @@
 use Rattle.cm_storage.specs.Report.{UsesTold}
 use Rattle.cm_storage.specs.ParentAtHand.{StaysStanding}
-use Rattle.cm_storage.proofs.Telling.{HasTold}
+use Rattle.cm_storage.proofs.lemmas.Telling.{HasTold}
 use Rattle.cm_storage.proofs.children.push_child_uses.Given as goal
 
 abbrev pub invariant-loop-usage : goal.invariant-loop-usage

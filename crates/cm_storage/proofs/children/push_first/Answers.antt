@@ -3,7 +3,7 @@ use Rattle.std.specs.Option.{option_copied}
 use Rattle.std.specs.Prelude.{OnOk}
 use Rattle.std.proofs.lemmas.Result.{on_ok_weaker}
 use Rattle.cm_storage.specs.Telling.{TellsPlace}
-use Rattle.cm_storage.proofs.Lines.{no_use_told, place_told}
+use Rattle.cm_storage.proofs.lemmas.Lines.{no_use_told, place_told}
 use Rattle.cm_storage.proofs.children.push_first.Goals as goal
 
 pub returns-in-None-clause-told : goal.returns-in-None-clause-told

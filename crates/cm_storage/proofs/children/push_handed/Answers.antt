@@ -1,5 +1,5 @@
 use Rattle.std.proofs.lemmas.Result.{on_ok_weaker}
-use Rattle.cm_storage.proofs.Lines.{kept_told}
+use Rattle.cm_storage.proofs.lemmas.Lines.{kept_told}
 use Rattle.cm_storage.proofs.children.push_handed.Goals as goal
 
 pub returns-in-Some-clause-told : goal.returns-in-Some-clause-told

@@ -2,7 +2,7 @@ use Rattle.std.proofs.Common.{Err, sym, ◌∙◌, ap}
 use Rattle.std.proofs.lemmas.Result.{on_ok_weaker}
 use Rattle.cm_storage.specs.declared.fault.StorageFault.TheVariants.{NoStorageOffer}
 use Rattle.cm_storage.specs.Way.{Ends, by_offer}
-use Rattle.cm_storage.proofs.Lines.{fault_told}
+use Rattle.cm_storage.proofs.lemmas.Lines.{fault_told}
 use Rattle.cm_storage.proofs.children.push_named.Goals as goal
 
 pub returns-in_ok-place-in-None-clause-told : goal.returns-in_ok-place-in-None-clause-told

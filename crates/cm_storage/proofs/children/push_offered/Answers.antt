@@ -2,7 +2,7 @@ use Rattle.std.proofs.Common.{Err, sym, ◌∙◌, ap}
 use Rattle.std.proofs.lemmas.Result.{on_ok_weaker}
 use Rattle.cm_storage.specs.declared.fault.StorageFault.TheVariants.{VoidStorage}
 use Rattle.cm_storage.specs.Way.{Ends}
-use Rattle.cm_storage.proofs.Lines.{fault_told, void_step, on_any, stays}
+use Rattle.cm_storage.proofs.lemmas.Lines.{fault_told, void_step, on_any, stays}
 use Rattle.cm_storage.proofs.children.push_offered.Goals as goal
 
 pub returns-in_ok-place-in_default : goal.returns-in_ok-place-in_default

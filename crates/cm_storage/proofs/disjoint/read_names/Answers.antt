@@ -1,7 +1,7 @@
 use Rattle.std.proofs.Common.{subst}
 use Rattle.cm_names.specs.Moniker.{IsChildName}
-use Rattle.cm_env.proofs.Steps.{parent_lower}
-use Rattle.cm_storage.proofs.Named.{named_more, named_all}
+use Rattle.cm_env.proofs.lemmas.Steps.{parent_lower}
+use Rattle.cm_storage.proofs.lemmas.Named.{named_more, named_all}
 use Rattle.cm_storage.proofs.disjoint.read_names.Goals as goal
 
 pub up-smaller : goal.up-smaller

@@ -1,4 +1,4 @@
-use Rattle.cm_storage.proofs.Named.{AreNamedFrom}
+use Rattle.cm_storage.proofs.lemmas.Named.{AreNamedFrom}
 use Rattle.cm_storage.proofs.disjoint.read_names.Given as goal
 
 -- the names down to the instance are names if those down to where the loop is are

@@ -1,4 +1,4 @@
-use Rattle.cm_storage.proofs.Below.{places_apart}
+use Rattle.cm_storage.proofs.lemmas.Below.{places_apart}
 use Rattle.cm_storage.proofs.disjoint.stand_apart.Goals as goal
 
 pub returns : goal.returns

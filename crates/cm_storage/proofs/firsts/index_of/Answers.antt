@@ -1,4 +1,4 @@
-use Rattle.cm_storage.proofs.Laid.{index_more}
+use Rattle.cm_storage.proofs.lemmas.Laid.{index_more}
 use Rattle.cm_storage.proofs.firsts.index_of.Goals as goal
 
 pub loop-offer-preserved : goal.loop-offer-preserved

@@ -1,5 +1,5 @@
-use Rattle.cm_storage.proofs.Knowing.{fault_way}
-use Rattle.cm_storage.proofs.Ways.{same_fault}
+use Rattle.cm_storage.proofs.lemmas.Knowing.{fault_way}
+use Rattle.cm_storage.proofs.lemmas.Ways.{same_fault}
 use Rattle.cm_storage.proofs.handing.climbed.Goals as goal
 
 pub returns-in-Err : goal.returns-in-Err

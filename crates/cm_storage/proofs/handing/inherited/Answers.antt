@@ -1,7 +1,7 @@
 use Rattle.std.proofs.Common.{Some, sym, subst}
 use Rattle.cm_storage.specs.ParentAtHand.{IsStanding, IsKnown, IsToldChildOf}
 use Rattle.cm_storage.specs.Way.{On}
-use Rattle.cm_storage.proofs.Inheriting.{last_standing, inherits}
+use Rattle.cm_storage.proofs.lemmas.Inheriting.{last_standing, inherits}
 use Rattle.cm_storage.proofs.handing.inherited.Goals as goal
 
 pub returns-in_ok-known-in-Some-kept_by : goal.returns-in_ok-known-in-Some-kept_by

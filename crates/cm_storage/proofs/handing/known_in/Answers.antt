@@ -1,6 +1,6 @@
 use Rattle.std.proofs.Common.{Ok}
-use Rattle.cm_storage.proofs.Knowing.{known_at, known_fault}
-use Rattle.cm_storage.proofs.Ways.{same_fault}
+use Rattle.cm_storage.proofs.lemmas.Knowing.{known_at, known_fault}
+use Rattle.cm_storage.proofs.lemmas.Ways.{same_fault}
 use Rattle.cm_storage.proofs.handing.known_in.Goals as goal
 
 pub returns-in-Ok : goal.returns-in-Ok

@@ -4,7 +4,7 @@ use Rattle.std.specs.Prelude.{IfOk}
 use Rattle.cm_storage.specs.declared.fault.StorageFault.TheVariants.{NoStorage}
 use Rattle.cm_storage.specs.ParentAtHand.{IsKnown}
 use Rattle.cm_storage.specs.Way.{by_storage}
-use Rattle.cm_storage.proofs.Knowing.{known_refused}
+use Rattle.cm_storage.proofs.lemmas.Knowing.{known_refused}
 use Rattle.cm_storage.proofs.handing.own_of.Goals as goal
 
 pub returns-in_ok-place-in-None : goal.returns-in_ok-place-in-None

@@ -1,7 +1,7 @@
 use Rattle.std.proofs.Common.{Some, sym, subst}
 use Rattle.std.proofs.lemmas.List.Elements.{All-pop, All-push}
 use Rattle.cm_storage.specs.ParentAtHand.{IsStanding, AreStanding}
-use Rattle.cm_storage.proofs.Lines.{on_any}
+use Rattle.cm_storage.proofs.lemmas.Lines.{on_any}
 use Rattle.cm_storage.proofs.report.push_child.Goals as goal
 
 pub returns-then-top-parent-clause-above : goal.returns-then-top-parent-clause-above

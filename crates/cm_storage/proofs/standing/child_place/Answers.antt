@@ -1,4 +1,4 @@
-use Rattle.cm_storage.proofs.Knowing.{child_placed}
+use Rattle.cm_storage.proofs.lemmas.Knowing.{child_placed}
 use Rattle.cm_storage.proofs.standing.child_place.Goals as goal
 
 pub returns : goal.returns

@@ -1,7 +1,7 @@
 use Rattle.std.proofs.Common.{sym, subst}
 use Rattle.std.specs.Prelude.{IfSome}
 use Rattle.cm_storage.specs.ParentAtHand.{IsStanding, IsToldChildOf}
-use Rattle.cm_storage.proofs.Lines.{prefix_told}
+use Rattle.cm_storage.proofs.lemmas.Lines.{prefix_told}
 use Rattle.cm_storage.proofs.standing.prefix_of.Goals as goal
 
 pub returns : goal.returns

@@ -2,7 +2,7 @@ use Rattle.std.proofs.Common.{leb, leb-true, arith, rules, leb-false}
 use Rattle.std.proofs.lemmas.List.Sorted.{IsPartitionPoint-from_clause, IsPartitionedBy-leb}
 use Rattle.cm_table.specs.Keys.{first_key}
 use Rattle.cm_table.specs.Slots.{inc_of, slots_in}
-use Rattle.cm_table.proofs.lists.BinarySearch.{begin_higher}
+use Rattle.cm_table.proofs.lemmas.lists.BinarySearch.{begin_higher}
 use Rattle.cm_table.proofs.block.blocks_upto.Goals as goal
 
 pub returns : goal.returns

@@ -2,7 +2,7 @@ use Rattle.std.proofs.Common.{◌≡◌, None, sym, subst}
 use Rattle.cm_table.specs.Change.{change_row}
 use Rattle.cm_table.specs.Keys.{IsItemAt}
 use Rattle.cm_table.specs.Slots.{inc_of, slot_of, with_row_by}
-use Rattle.cm_table.proofs.lists.Editing.{edit_none, edit_at}
+use Rattle.cm_table.proofs.lemmas.lists.Editing.{edit_none, edit_at}
 use Rattle.cm_table.proofs.block.change_at.Goals as goal
 
 pub returns-in-None : goal.returns-in-None

@@ -2,8 +2,8 @@ use Rattle.std.proofs.Common.{◌≡◌, suc, None, sym, subst}
 use Rattle.cm_table.specs.Change.{change_row}
 use Rattle.cm_table.specs.Keys.{Increasing, IsPlace}
 use Rattle.cm_table.specs.Slots.{inc_of, slots_in, flat, slot_of, with_row_by}
-use Rattle.cm_table.proofs.lists.BinarySearch.{part_increasing}
-use Rattle.cm_table.proofs.lists.Editing.{edited, edit_none, edit_acts, act_part, edited_filled}
+use Rattle.cm_table.proofs.lemmas.lists.BinarySearch.{part_increasing}
+use Rattle.cm_table.proofs.lemmas.lists.Editing.{edited, edit_none, edit_acts, act_part, edited_filled}
 use Rattle.cm_table.proofs.block.change_in.Goals as goal
 
 pub returns-in-None-clause-slots : goal.returns-in-None-clause-slots

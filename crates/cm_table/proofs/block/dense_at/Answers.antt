@@ -1,6 +1,6 @@
 use Rattle.std.proofs.Common.{sym, ◌∙◌, arith}
 use Rattle.cm_table.specs.Slots.{inc_of}
-use Rattle.cm_table.proofs.lists.BinarySearch.{at_place}
+use Rattle.cm_table.proofs.lemmas.lists.BinarySearch.{at_place}
 use Rattle.cm_table.proofs.block.dense_at.Goals as goal
 
 pub returns-then-inc : goal.returns-then-inc

@@ -1,7 +1,7 @@
 use Rattle.std.proofs.Common.{◌∙◌, ap, sym, subst, Some, arith}
 use Rattle.cm_table.specs.Keys.{Increasing}
 use Rattle.cm_table.specs.Slots.{inc_of, slot_of, slots_in}
-use Rattle.cm_table.proofs.lists.BinarySearch.{part_increasing, in_part}
+use Rattle.cm_table.proofs.lemmas.lists.BinarySearch.{part_increasing, in_part}
 use Rattle.cm_table.proofs.block.dense_in.Goals as goal
 
 pub dense_at-requires : goal.dense_at-requires

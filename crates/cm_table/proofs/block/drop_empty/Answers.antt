@@ -1,8 +1,8 @@
 use Rattle.std.proofs.Common.{◌<◌, ◌==◌, ◌∙◌, ap, sym, subst, length}
 use Rattle.cm_table.specs.Keys.{Filled}
 use Rattle.cm_table.specs.Slots.{slots_in, flat}
-use Rattle.cm_table.proofs.lists.Drops.{empty_list}
-use Rattle.cm_table.proofs.lists.Editing.{flat-empty, but_removed, but_filled, some_long}
+use Rattle.cm_table.proofs.lemmas.lists.Drops.{empty_list}
+use Rattle.cm_table.proofs.lemmas.lists.Editing.{flat-empty, but_removed, but_filled, some_long}
 use Rattle.cm_table.proofs.block.drop_empty.Goals as goal
 
 pub returns-then-is_empty-clause-slots : goal.returns-then-is_empty-clause-slots

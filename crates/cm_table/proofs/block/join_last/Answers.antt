@@ -1,6 +1,6 @@
 use Rattle.std.proofs.Common.{arith}
 use Rattle.cm_table.specs.Slots.{slots_in}
-use Rattle.cm_table.proofs.lists.Editing.{joined_flat, joined_filled}
+use Rattle.cm_table.proofs.lemmas.lists.Editing.{joined_flat, joined_filled}
 use Rattle.cm_table.proofs.block.join_last.Goals as goal
 
 pub returns-clause-slots : goal.returns-clause-slots

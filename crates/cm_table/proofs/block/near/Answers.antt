@@ -1,6 +1,6 @@
 use Rattle.std.proofs.Common.{◌+◌, sym, ◌∙◌}
 use Rattle.cm_table.specs.Slots.{inc_of, slots_in}
-use Rattle.cm_table.proofs.lists.BinarySearch.{between}
+use Rattle.cm_table.proofs.lemmas.lists.BinarySearch.{between}
 use Rattle.cm_table.proofs.block.near.Goals as goal
 
 pub returns-then-not-there : goal.returns-then-not-there

@@ -1,6 +1,6 @@
 use Rattle.std.proofs.Common.{sym, ◌∙◌}
 use Rattle.cm_table.specs.Slots.{inc_of}
-use Rattle.cm_table.proofs.lists.BinarySearch.{item_none, is_at, none_last}
+use Rattle.cm_table.proofs.lemmas.lists.BinarySearch.{item_none, is_at, none_last}
 use Rattle.cm_table.proofs.block.place_at.Goals as goal
 
 pub returns-then-count-eq0 : goal.returns-then-count-eq0

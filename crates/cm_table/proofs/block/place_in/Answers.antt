@@ -1,5 +1,5 @@
 use Rattle.cm_table.specs.Slots.{inc_of, slots_in}
-use Rattle.cm_table.proofs.lists.BinarySearch.{none_at_zero, place_before, place_zero}
+use Rattle.cm_table.proofs.lemmas.lists.BinarySearch.{none_at_zero, place_before, place_zero}
 use Rattle.cm_table.proofs.block.place_in.Goals as goal
 
 pub returns-then-count-eq0 : goal.returns-then-count-eq0

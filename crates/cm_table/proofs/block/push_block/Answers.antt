@@ -1,7 +1,7 @@
 use Rattle.std.proofs.Common.{subst, sym, arith}
 use Rattle.cm_table.specs.Keys.{Filled}
 use Rattle.cm_table.specs.Slots.{slots_in}
-use Rattle.cm_table.proofs.lists.Editing.{filled_push}
+use Rattle.cm_table.proofs.lemmas.lists.Editing.{filled_push}
 use Rattle.cm_table.proofs.block.push_block.Goals as goal
 
 pub returns-clause-filled : goal.returns-clause-filled

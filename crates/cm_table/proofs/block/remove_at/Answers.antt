@@ -1,7 +1,7 @@
 use Rattle.std.proofs.Common.{◌≡◌, None, ◌∙◌, sym, subst}
 use Rattle.cm_table.specs.Keys.{IsItemAt}
 use Rattle.cm_table.specs.Slots.{inc_of, slot_of}
-use Rattle.cm_table.proofs.lists.Editing.{drop_none, drop_at}
+use Rattle.cm_table.proofs.lemmas.lists.Editing.{drop_none, drop_at}
 use Rattle.cm_table.proofs.block.remove_at.Goals as goal
 
 pub returns-in-Some : goal.returns-in-Some

@@ -1,8 +1,8 @@
 use Rattle.std.proofs.Common.{◌≡◌, suc, None, ◌∙◌, sym, subst}
 use Rattle.cm_table.specs.Keys.{Increasing, IsPlace}
 use Rattle.cm_table.specs.Slots.{inc_of, slots_in, flat, slot_of}
-use Rattle.cm_table.proofs.lists.BinarySearch.{part_increasing}
-use Rattle.cm_table.proofs.lists.Editing.{dropped, drop_none, drop_acts, act_part, but_set}
+use Rattle.cm_table.proofs.lemmas.lists.BinarySearch.{part_increasing}
+use Rattle.cm_table.proofs.lemmas.lists.Editing.{dropped, drop_none, drop_acts, act_part, but_set}
 use Rattle.cm_table.proofs.block.remove_in.Goals as goal
 
 pub remove_at-requires : goal.remove_at-requires

@@ -1,7 +1,7 @@
 use Rattle.std.proofs.Common.{◌∙◌, sym, ap, subst}
 use Rattle.cm_table.specs.Keys.{Increasing}
 use Rattle.cm_table.specs.Slots.{inc_of, slot_of, slots_in}
-use Rattle.cm_table.proofs.lists.BinarySearch.{in_last, part_increasing}
+use Rattle.cm_table.proofs.lemmas.lists.BinarySearch.{in_last, part_increasing}
 use Rattle.cm_table.proofs.block.slot_anywhere.Goals as goal
 
 pub slot_at-requires : goal.slot_at-requires

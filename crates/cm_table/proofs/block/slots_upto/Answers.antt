@@ -1,7 +1,7 @@
 use Rattle.std.proofs.Common.{leb, leb-true, arith, rules, leb-false}
 use Rattle.std.proofs.lemmas.List.Sorted.{IsPartitionPoint-from_clause, IsPartitionedBy-leb}
 use Rattle.cm_table.specs.Slots.{inc_of}
-use Rattle.cm_table.proofs.lists.BinarySearch.{increasing_alone}
+use Rattle.cm_table.proofs.lemmas.lists.BinarySearch.{increasing_alone}
 use Rattle.cm_table.proofs.block.slots_upto.Goals as goal
 
 pub returns : goal.returns

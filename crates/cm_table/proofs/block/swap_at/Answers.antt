@@ -1,9 +1,9 @@
 use Rattle.std.proofs.Common.{◌≡◌, None, ◌∙◌, sym, ap, subst}
-use Rattle.cm_world.proofs.trees.Finding.{some_same, none_some}
+use Rattle.cm_world.proofs.lemmas.trees.Finding.{some_same, none_some}
 use Rattle.cm_table.specs.Keys.{IsItemAt}
 use Rattle.cm_table.specs.declared.slot.Slot.{Slot}
 use Rattle.cm_table.specs.Slots.{inc_of, slot_of, indexed_by}
-use Rattle.cm_table.proofs.lists.Editing.{edit_none, edit_at}
+use Rattle.cm_table.proofs.lemmas.lists.Editing.{edit_none, edit_at}
 use Rattle.cm_table.proofs.block.swap_at.Goals as goal
 
 pub returns-in-Some-clause-slots : goal.returns-in-Some-clause-slots

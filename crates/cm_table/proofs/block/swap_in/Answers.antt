@@ -1,9 +1,9 @@
 use Rattle.std.proofs.Common.{◌≡◌, suc, None, ◌∙◌, sym, ap, subst}
-use Rattle.cm_world.proofs.trees.Finding.{none_some}
+use Rattle.cm_world.proofs.lemmas.trees.Finding.{none_some}
 use Rattle.cm_table.specs.Keys.{Increasing, IsPlace}
 use Rattle.cm_table.specs.Slots.{inc_of, slots_in, flat, slot_of, indexed_by}
-use Rattle.cm_table.proofs.lists.BinarySearch.{in_last, part_increasing}
-use Rattle.cm_table.proofs.lists.Editing.{edited, edit_none, edit_acts, act_part, edited_filled}
+use Rattle.cm_table.proofs.lemmas.lists.BinarySearch.{in_last, part_increasing}
+use Rattle.cm_table.proofs.lemmas.lists.Editing.{edited, edit_none, edit_acts, act_part, edited_filled}
 use Rattle.cm_table.proofs.block.swap_in.Goals as goal
 
 pub swap_at-requires : goal.swap_at-requires

@@ -1,4 +1,4 @@
-use Rattle.cm_table.proofs.indexes.Naming.{put_name}
+use Rattle.cm_table.proofs.lemmas.indexes.Naming.{put_name}
 use Rattle.cm_table.proofs.by_name.put_other.Goals as goal
 
 pub returns-clause-ok : goal.returns-clause-ok

@@ -2,7 +2,7 @@ use Rattle.std.proofs.Common.{◌-◌, ◌≤◌, ◌∙◌, Some, ap, sym, arit
 use Rattle.std.specs.Option.{option_copied, option_eq}
 use Rattle.cm_decl.specs.Same.{same_child}
 use Rattle.cm_table.specs.Slots.{named_in}
-use Rattle.cm_table.proofs.indexes.Naming.{leads_above}
+use Rattle.cm_table.proofs.lemmas.indexes.Naming.{leads_above}
 use Rattle.cm_table.proofs.links.forget_child.Goals as goal
 
 pub forget-requires : goal.forget-requires

@@ -3,9 +3,9 @@ use Rattle.cm_facts.proofs.Options.{is_some_true}
 use Rattle.cm_table.specs.declared.slot.Slot.{Slot}
 use Rattle.cm_table.specs.Keys.{Increasing}
 use Rattle.cm_table.specs.Slots.{inc_of, flat, slot_of, base_of}
-use Rattle.cm_table.proofs.lists.EachItem.{each_find}
-use Rattle.cm_table.proofs.slots.Rowed.{increasing_indexed}
-use Rattle.cm_table.proofs.slots.Linking.{IsSwapped, linked, same_said, on_ok, on_err}
+use Rattle.cm_table.proofs.lemmas.lists.EachItem.{each_find}
+use Rattle.cm_table.proofs.lemmas.slots.Rowed.{increasing_indexed}
+use Rattle.cm_table.proofs.lemmas.slots.Linking.{IsSwapped, linked, same_said, on_ok, on_err}
 use Rattle.cm_table.proofs.links.link.Goals as goal
 
 pub put_child-put-requires : goal.put_child-put-requires

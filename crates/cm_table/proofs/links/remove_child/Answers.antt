@@ -1,7 +1,7 @@
 use Rattle.std.proofs.Common.{◌-◌, ◌≤◌, ◌==◌, ◌∙◌, ap, sym, arith, add-sub_of_le}
 use Rattle.cm_world.specs.Edits.{drop_first}
 use Rattle.cm_table.specs.Slots.{kids_of}
-use Rattle.cm_table.proofs.indexes.Naming.{remove_kids, drop_low}
+use Rattle.cm_table.proofs.lemmas.indexes.Naming.{remove_kids, drop_low}
 use Rattle.cm_table.proofs.links.remove_child.Goals as goal
 
 pub returns-then-inc-own-clause-kids : goal.returns-then-inc-own-clause-kids

@@ -3,8 +3,8 @@ use Rattle.std.specs.Prelude.{option_and_then}
 use Rattle.cm_table.specs.declared.slot.Slot.{Slot}
 use Rattle.cm_table.specs.Keys.{Increasing}
 use Rattle.cm_table.specs.Slots.{inc_of, flat, slot_of}
-use Rattle.cm_table.proofs.slots.Rowed.{increasing_indexed, slots_rise}
-use Rattle.cm_table.proofs.slots.Linking.{IsSwapped, unlinked, unlinked_none, own_name, taken_rises}
+use Rattle.cm_table.proofs.lemmas.slots.Rowed.{increasing_indexed, slots_rise}
+use Rattle.cm_table.proofs.lemmas.slots.Linking.{IsSwapped, unlinked, unlinked_none, own_name, taken_rises}
 use Rattle.cm_table.proofs.links.unlink.Goals as goal
 
 pub parent_in-requires-clause-increasing : goal.parent_in-requires-clause-increasing

@@ -3,7 +3,7 @@ use Rattle.std.specs.Option.{option_map_or}
 use Rattle.cm_table.specs.declared.slot.Slot.{Slot}
 use Rattle.cm_table.specs.Flags.{flag_in}
 use Rattle.cm_table.specs.Slots.{flat}
-use Rattle.cm_table.proofs.slots.Rowed.{slots_rise}
+use Rattle.cm_table.proofs.lemmas.slots.Rowed.{slots_rise}
 use Rattle.cm_table.proofs.marking.is_flagged.Goals as goal
 
 pub slot_in-requires-clause-increasing : goal.slot_in-requires-clause-increasing

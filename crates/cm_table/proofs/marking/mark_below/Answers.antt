@@ -2,8 +2,8 @@ use Rattle.std.proofs.Common.{◌∙◌, refl, sym, subst}
 use Rattle.cm_table.specs.Keys.{Filled}
 use Rattle.cm_table.specs.Marking.{AreIndexed, BeginsAt, Going, GoesAnyway}
 use Rattle.cm_table.specs.Slots.{flat, slots_in}
-use Rattle.cm_table.proofs.flags.Flagging.{indexed_alike}
-use Rattle.cm_table.proofs.flags.Marked.{started, gone_on, all_marked}
+use Rattle.cm_table.proofs.lemmas.flags.Flagging.{indexed_alike}
+use Rattle.cm_table.proofs.lemmas.flags.Marked.{started, gone_on, all_marked}
 use Rattle.cm_table.proofs.marking.mark_below.Goals as goal
 
 pub open_top-at-requires-clause-filled : goal.open_top-at-requires-clause-filled

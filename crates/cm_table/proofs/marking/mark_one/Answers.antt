@@ -7,10 +7,10 @@ use Rattle.cm_table.specs.declared.slot.Slot.{Slot}
 use Rattle.cm_table.specs.Keys.{Filled, Increasing}
 use Rattle.cm_table.specs.Marking.{unmarked, AreIndexed, IsOpenWithin, IsBottom, GoesOn}
 use Rattle.cm_table.specs.Slots.{inc_of, flat, slots_in, slot_of, rows_in}
-use Rattle.cm_table.proofs.slots.Rowed.{row_of-slots, slots_rise}
-use Rattle.cm_table.proofs.tree.Removing.{parent_by_slots}
-use Rattle.cm_table.proofs.flags.Flagging.{rows_alike, same-flagged}
-use Rattle.cm_table.proofs.flags.Passing.{turned, top_done, goes_on}
+use Rattle.cm_table.proofs.lemmas.slots.Rowed.{row_of-slots, slots_rise}
+use Rattle.cm_table.proofs.lemmas.tree.Removing.{parent_by_slots}
+use Rattle.cm_table.proofs.lemmas.flags.Flagging.{rows_alike, same-flagged}
+use Rattle.cm_table.proofs.lemmas.flags.Passing.{turned, top_done, goes_on}
 use Rattle.cm_table.proofs.marking.mark_one.Goals as goal
 
 pub walk_down-bottom-requires-clause-filled : goal.walk_down-bottom-requires-clause-filled

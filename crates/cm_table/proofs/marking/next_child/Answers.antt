@@ -2,9 +2,9 @@ use Rattle.std.proofs.Common.{◌==◌, ◌^◌, ◌∙◌, sym, ap, List}
 use Rattle.std.specs.Prelude.{option_map}
 use Rattle.cm_table.specs.declared.slot.Slot.{Slot}
 use Rattle.cm_table.specs.Slots.{flat, rows_in, IsIndexed}
-use Rattle.cm_table.proofs.lists.EachItem.{each_find}
-use Rattle.cm_table.proofs.slots.Rowed.{row_of-slots, slots_rise}
-use Rattle.cm_table.proofs.indexes.Told.{next_none, next_told, rises_told, kids_fit}
+use Rattle.cm_table.proofs.lemmas.lists.EachItem.{each_find}
+use Rattle.cm_table.proofs.lemmas.slots.Rowed.{row_of-slots, slots_rise}
+use Rattle.cm_table.proofs.lemmas.indexes.Told.{next_none, next_told, rises_told, kids_fit}
 use Rattle.cm_table.proofs.marking.next_child.Goals as goal
 
 pub slot_in-requires-clause-increasing : goal.slot_in-requires-clause-increasing

@@ -1,6 +1,6 @@
 use Rattle.std.proofs.Common.{◌∙◌, sym}
 use Rattle.cm_table.specs.Slots.{flat, rows_in}
-use Rattle.cm_table.proofs.flags.Kids.{none_yet, one_more, all_seen, open_found, room_less}
+use Rattle.cm_table.proofs.lemmas.flags.Kids.{none_yet, one_more, all_seen, open_found, room_less}
 use Rattle.cm_table.proofs.marking.open_behind.Goals as goal
 
 pub seek-init : goal.seek-init

@@ -1,5 +1,5 @@
 use Rattle.cm_table.specs.Slots.{flat}
-use Rattle.cm_table.proofs.flags.Kids.{AreFlaggedUpto, room}
+use Rattle.cm_table.proofs.lemmas.flags.Kids.{AreFlaggedUpto, room}
 use Rattle.cm_table.proofs.marking.open_behind.Given as goal
 
 -- each child behind the first one is flagged, or still comes

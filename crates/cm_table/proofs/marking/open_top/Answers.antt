@@ -1,8 +1,8 @@
 use Rattle.std.proofs.Common.{◌∙◌, sym, refl, inl, inr}
 use Rattle.cm_table.specs.Slots.{flat}
-use Rattle.cm_table.proofs.slots.Rowed.{slots_rise}
+use Rattle.cm_table.proofs.lemmas.slots.Rowed.{slots_rise}
 use Rattle.cm_trees.proofs.rows.Rows.{is_some_by}
-use Rattle.cm_table.proofs.flags.Flagging.{flag-slot}
+use Rattle.cm_table.proofs.lemmas.flags.Flagging.{flag-slot}
 use Rattle.cm_table.specs.Slots.{slot_of}
 use Rattle.cm_table.proofs.marking.open_top.Goals as goal
 

@@ -1,6 +1,6 @@
 use Rattle.cm_table.specs.Slots.{flat, rows_in}
-use Rattle.cm_table.proofs.tree.Removing.{child_nearer}
-use Rattle.cm_table.proofs.flags.Passing.{as_child, open_within}
+use Rattle.cm_table.proofs.lemmas.tree.Removing.{child_nearer}
+use Rattle.cm_table.proofs.lemmas.flags.Passing.{as_child, open_within}
 use Rattle.cm_table.proofs.marking.walk_down.Goals as goal
 
 pub down-smaller : goal.down-smaller

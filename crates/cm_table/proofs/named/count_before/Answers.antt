@@ -2,7 +2,7 @@ use Rattle.std.proofs.Common.{rules}
 use Rattle.std.specs.Ordering.{is_lt}
 use Rattle.std.proofs.lemmas.List.Sorted.{IsPartitionPoint-from_clause}
 use Rattle.cm_table.specs.Named.{name_cmp, name_key_at, sought_key}
-use Rattle.cm_table.proofs.SeekingNamed.{named_parted}
+use Rattle.cm_table.proofs.lemmas.SeekingNamed.{named_parted}
 use Rattle.cm_table.proofs.named.count_before.Goals as goal
 
 pub returns : goal.returns

@@ -1,5 +1,5 @@
 use Rattle.std.proofs.Common.{◌∙◌}
-use Rattle.cm_table.proofs.SeekingNamed.{named_behind, named_other, named_there}
+use Rattle.cm_table.proofs.lemmas.SeekingNamed.{named_behind, named_other, named_there}
 use Rattle.cm_table.proofs.named.find_named.Goals as goal
 
 pub returns-in_err-place : goal.returns-in_err-place

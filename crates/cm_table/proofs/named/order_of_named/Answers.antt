@@ -2,8 +2,8 @@ use Rattle.std.proofs.Common.{rules}
 use Rattle.std.specs.Ordering.{is_lt}
 use Rattle.std.proofs.lemmas.Fn.{always_returns_same}
 use Rattle.cm_table.specs.Named.{name_key, name_cmp, named_cmp}
-use Rattle.cm_table.proofs.SeekingNamed.{named_weak}
-use Rattle.cm_table.proofs.lists.Sought.{ordered}
+use Rattle.cm_table.proofs.lemmas.SeekingNamed.{named_weak}
+use Rattle.cm_table.proofs.lemmas.lists.Sought.{ordered}
 use Rattle.cm_table.proofs.named.order_of_named.Goals as goal
 
 pub returns : goal.returns

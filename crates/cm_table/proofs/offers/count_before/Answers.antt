@@ -1,7 +1,7 @@
 use Rattle.std.proofs.Common.{rules}
 use Rattle.std.proofs.lemmas.List.Sorted.{IsPartitionPoint-from_clause}
 use Rattle.cm_table.specs.Offers.{wanted, is_before}
-use Rattle.cm_table.proofs.Seeking.{parted}
+use Rattle.cm_table.proofs.lemmas.Seeking.{parted}
 use Rattle.cm_table.proofs.offers.count_before.Goals as goal
 
 pub returns : goal.returns

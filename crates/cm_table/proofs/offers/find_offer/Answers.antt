@@ -1,5 +1,5 @@
 use Rattle.std.proofs.Common.{◌∙◌}
-use Rattle.cm_table.proofs.Seeking.{found_behind, found_other, found_there}
+use Rattle.cm_table.proofs.lemmas.Seeking.{found_behind, found_other, found_there}
 use Rattle.cm_table.proofs.offers.find_offer.Goals as goal
 
 pub returns-in_err-place : goal.returns-in_err-place

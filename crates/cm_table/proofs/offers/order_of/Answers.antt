@@ -2,8 +2,8 @@ use Rattle.std.proofs.Common.{rules}
 use Rattle.std.specs.Ordering.{is_lt}
 use Rattle.std.proofs.lemmas.Fn.{always_returns_same}
 use Rattle.cm_table.specs.Offers.{key_by, key_cmp, place_cmp}
-use Rattle.cm_table.proofs.Seeking.{place_weak}
-use Rattle.cm_table.proofs.lists.Sought.{ordered}
+use Rattle.cm_table.proofs.lemmas.Seeking.{place_weak}
+use Rattle.cm_table.proofs.lemmas.lists.Sought.{ordered}
 use Rattle.cm_table.proofs.offers.order_of.Goals as goal
 
 pub returns : goal.returns

@@ -1,7 +1,7 @@
 use Rattle.std.proofs.Common.{◌≡◌, ◌∙◌, ap, arith, rules, subst, sym}
 use Rattle.std.specs.Option.{option_copied}
 use Rattle.cm_table.specs.Monikers.{HasOwnName, unhung}
-use Rattle.cm_table.proofs.monikers.Hanging.{AreHung, none_hung, next_own, one_more_hung}
+use Rattle.cm_table.proofs.lemmas.monikers.Hanging.{AreHung, none_hung, next_own, one_more_hung}
 use Rattle.cm_table.proofs.prepared.hang_all.Goals as goal
 
 pub loop-slot-init : goal.loop-slot-init

@@ -1,6 +1,6 @@
 use Rattle.std.proofs.Common.{rules}
 use Rattle.std.specs.Option.{option_copied}
-use Rattle.cm_table.proofs.monikers.Hanging.{hung_below}
+use Rattle.cm_table.proofs.lemmas.monikers.Hanging.{hung_below}
 use Rattle.cm_table.proofs.prepared.hang_slot.Goals as goal
 
 pub returns-clause-below : goal.returns-clause-below

@@ -3,7 +3,7 @@ use Rattle.cm_facts.proofs.Options.{option_map_none}
 use Rattle.cm_decl.specs.Graph.{static_name}
 use Rattle.cm_decl.specs.Same.{same_child}
 use Rattle.cm_table.specs.ByName.{led_to}
-use Rattle.cm_table.proofs.indexes.Preparing.{no_kids, kids_more, names_more}
+use Rattle.cm_table.proofs.lemmas.indexes.Preparing.{no_kids, kids_more, names_more}
 use Rattle.cm_table.proofs.prepared.index_of.Goals as goal
 
 pub loop-child-init : goal.loop-child-init

@@ -1,6 +1,6 @@
 use Rattle.std.proofs.Common.{arith, ◌∙◌, ap, sym}
 use Rattle.cm_table.specs.Numbering.{placed_slot}
-use Rattle.cm_table.proofs.slots.Numbers.{numbered_over_more}
+use Rattle.cm_table.proofs.lemmas.slots.Numbers.{numbered_over_more}
 use Rattle.cm_table.proofs.prepared.number_all.Goals as goal
 
 pub loop-slot-preserved : goal.loop-slot-preserved

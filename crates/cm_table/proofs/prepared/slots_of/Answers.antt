@@ -3,8 +3,8 @@ use Rattle.cm_world.specs.declared.row.Row.{Row}
 use Rattle.cm_table.specs.Keys.{EachItem}
 use Rattle.cm_table.specs.Monikers.{HasOwnName}
 use Rattle.cm_table.specs.Numbering.{IsBare, bare_slot}
-use Rattle.cm_table.proofs.lists.EachItem.{each_append}
-use Rattle.cm_table.proofs.indexes.Preparing.{rows_pushed}
+use Rattle.cm_table.proofs.lemmas.lists.EachItem.{each_append}
+use Rattle.cm_table.proofs.lemmas.indexes.Preparing.{rows_pushed}
 use Rattle.cm_table.proofs.prepared.slots_of.Goals as goal
 
 pub loop-child-preserved : goal.loop-child-preserved

@@ -1,5 +1,5 @@
 use Rattle.std.proofs.Common.{ℕ, ◌∙◌, sym, arith}
-use Rattle.cm_table.proofs.lists.BinarySearch.{place_behind}
+use Rattle.cm_table.proofs.lemmas.lists.BinarySearch.{place_behind}
 use Rattle.cm_table.proofs.slot.dense_upto.Goals as goal
 
 pub returns-then-kid-above : goal.returns-then-kid-above

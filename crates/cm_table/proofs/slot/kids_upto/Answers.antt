@@ -1,6 +1,6 @@
 use Rattle.std.proofs.Common.{ℕ, leb, leb-true, arith, rules, leb-false}
 use Rattle.std.proofs.lemmas.List.Sorted.{IsPartitionPoint-from_clause, IsPartitionedBy-leb}
-use Rattle.cm_table.proofs.lists.BinarySearch.{increasing_alone}
+use Rattle.cm_table.proofs.lemmas.lists.BinarySearch.{increasing_alone}
 use Rattle.cm_table.proofs.slot.kids_upto.Goals as goal
 
 pub returns : goal.returns

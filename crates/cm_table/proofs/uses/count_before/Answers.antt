@@ -2,7 +2,7 @@ use Rattle.std.proofs.Common.{rules}
 use Rattle.std.specs.Ordering.{is_lt}
 use Rattle.std.proofs.lemmas.List.Sorted.{IsPartitionPoint-from_clause}
 use Rattle.cm_table.specs.Uses.{path_at, path_cmp}
-use Rattle.cm_table.proofs.SeekingUses.{uses_parted}
+use Rattle.cm_table.proofs.lemmas.SeekingUses.{uses_parted}
 use Rattle.cm_table.proofs.uses.count_before.Goals as goal
 
 pub returns : goal.returns

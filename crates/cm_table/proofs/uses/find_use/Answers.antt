@@ -1,5 +1,5 @@
 use Rattle.std.proofs.Common.{◌∙◌}
-use Rattle.cm_table.proofs.SeekingUses.{used_behind, used_other, used_there}
+use Rattle.cm_table.proofs.lemmas.SeekingUses.{used_behind, used_other, used_there}
 use Rattle.cm_table.proofs.uses.find_use.Goals as goal
 
 pub returns-in_err-place : goal.returns-in_err-place

@@ -2,8 +2,8 @@ use Rattle.std.proofs.Common.{rules}
 use Rattle.std.specs.Ordering.{is_lt}
 use Rattle.std.proofs.lemmas.Fn.{always_returns_same}
 use Rattle.cm_table.specs.Uses.{path_by, path_cmp, use_cmp}
-use Rattle.cm_table.proofs.SeekingUses.{use_weak}
-use Rattle.cm_table.proofs.lists.Sought.{ordered}
+use Rattle.cm_table.proofs.lemmas.SeekingUses.{use_weak}
+use Rattle.cm_table.proofs.lemmas.lists.Sought.{ordered}
 use Rattle.cm_table.proofs.uses.order_of_uses.Goals as goal
 
 pub returns : goal.returns

@@ -1,7 +1,7 @@
 use Rattle.std.proofs.Common.{true, cond, is_eq, ap, ◌∙◌}
 use Rattle.std.specs.Ordering.{nat_cmp}
 use Rattle.std.specs.BTreeSet.{contains}
-use Rattle.cm_table.proofs.tree.Wanting.{put_keeps, put_own, same_keys}
+use Rattle.cm_table.proofs.lemmas.tree.Wanting.{put_keeps, put_own, same_keys}
 use Rattle.cm_table.proofs.wanted.put_name.Goals as goal
 
 pub returns-in_err-insert-clause-keeps : goal.returns-in_err-insert-clause-keeps

@@ -1,5 +1,5 @@
 use Rattle.std.proofs.Common.{refl}
-use Rattle.cm_table.proofs.tree.Wanting.{wanting_more, wanting_ends}
+use Rattle.cm_table.proofs.lemmas.tree.Wanting.{wanting_more, wanting_ends}
 use Rattle.cm_table.proofs.wanted.want_all.Goals as goal
 
 pub loop-give-init : goal.loop-give-init

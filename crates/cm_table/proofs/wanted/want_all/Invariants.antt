@@ -1,5 +1,5 @@
 use Rattle.std.proofs.Common.{take}
-use Rattle.cm_table.proofs.tree.Wanting.{IsWanting}
+use Rattle.cm_table.proofs.lemmas.tree.Wanting.{IsWanting}
 use Rattle.cm_table.proofs.wanted.want_all.Given as goal
 
 -- the set has what it had, and the sources of the gives so far

@@ -1,4 +1,4 @@
-use Rattle.cm_text.proofs.pieces.CoverLemmas.{faults_are_unique}
+use Rattle.cm_text.proofs.lemmas.pieces.Cover.{faults_are_unique}
 use Rattle.cm_text.proofs.laws.faults_are_unique.Goals as goal
 
 pub returns : goal.returns

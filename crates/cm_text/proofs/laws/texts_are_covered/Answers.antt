@@ -1,4 +1,4 @@
-use Rattle.cm_text.proofs.pieces.CoverLemmas.{are_covered}
+use Rattle.cm_text.proofs.lemmas.pieces.Cover.{are_covered}
 use Rattle.cm_text.proofs.laws.texts_are_covered.Goals as goal
 
 pub returns : goal.returns

@@ -1,4 +1,4 @@
-use Rattle.cm_text.proofs.pieces.PieceLemmas.{are_computed}
+use Rattle.cm_text.proofs.lemmas.pieces.Piece.{are_computed}
 use Rattle.cm_text.proofs.laws.tokens_are_computed.Goals as goal
 
 pub returns : goal.returns

@@ -1,4 +1,4 @@
-use Rattle.cm_text.proofs.pieces.CoverLemmas.{tokens_exclude_faults}
+use Rattle.cm_text.proofs.lemmas.pieces.Cover.{tokens_exclude_faults}
 use Rattle.cm_text.proofs.laws.tokens_exclude_faults.Goals as goal
 
 pub returns : goal.returns

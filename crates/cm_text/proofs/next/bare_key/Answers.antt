@@ -1,5 +1,5 @@
 use Rattle.std.proofs.Common.{◌≡◌, true, false, refl, sym, ◌∙◌, rules}
-use Rattle.cm_text.proofs.found.NextLemmas.{key_run, key_cut, key_passed}
+use Rattle.cm_text.proofs.lemmas.found.Next.{key_run, key_cut, key_passed}
 use Rattle.cm_text.proofs.next.bare_key.Goals as goal
 
 pub range-requires-clause-end_boundary : goal.range-requires-clause-end_boundary

@@ -1,6 +1,6 @@
-use Rattle.cm_text.proofs.found.OutlineLemmas.{found_cut}
-use Rattle.cm_text.proofs.found.LoopLemmas.{some_token_of}
-use Rattle.cm_text.proofs.found.NextLemmas.{blank_passed, no_token}
+use Rattle.cm_text.proofs.lemmas.found.Outline.{found_cut}
+use Rattle.cm_text.proofs.lemmas.found.Loop.{some_token_of}
+use Rattle.cm_text.proofs.lemmas.found.Next.{blank_passed, no_token}
 use Rattle.cm_text.proofs.next.behind_blank.Goals as goal
 
 pub range_from-requires : goal.range_from-requires

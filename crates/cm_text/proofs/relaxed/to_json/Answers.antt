@@ -1,8 +1,8 @@
 use Rattle.std.proofs.Common.{◌∙◌, arith, sym, ap, rules}
 use Rattle.std.proofs.lemmas.Str.{IsCharBoundary-start}
 use Rattle.cm_text.specs.Json.{json_of}
-use Rattle.cm_text.proofs.found.OutlineLemmas.{found}
-use Rattle.cm_text.proofs.found.LoopLemmas.{is_token_found, next_cut, next_place, next_token, next_gap, json_begins, json_fails, json_ends, is_json, is_fault, some_token_of}
+use Rattle.cm_text.proofs.lemmas.found.Outline.{found}
+use Rattle.cm_text.proofs.lemmas.found.Loop.{is_token_found, next_cut, next_place, next_token, next_gap, json_begins, json_fails, json_ends, is_json, is_fault, some_token_of}
 use Rattle.cm_text.proofs.relaxed.to_json.Goals as goal
 use Rattle.cm_text.proofs.relaxed.to_json.Goals.{in-Some+in_ok-push, in_default}
 

@@ -1,4 +1,4 @@
-use Rattle.cm_text.proofs.found.ScanLemmas.{comment_ends, comment_goes_on, comment_never, comment_begins}
+use Rattle.cm_text.proofs.lemmas.found.Scan.{comment_ends, comment_goes_on, comment_never, comment_begins}
 use Rattle.cm_text.specs.Pieces.{comment}
 use Rattle.cm_text.proofs.scan.comment_len.Goals as goal
 

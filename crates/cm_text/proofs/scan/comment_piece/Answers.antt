@@ -1,6 +1,6 @@
 use Rattle.std.proofs.Common.{arith, sym, length-drop}
 use Rattle.std.proofs.lemmas.List.{take_rest}
-use Rattle.cm_text.proofs.found.OutlineLemmas.{comment_fits}
+use Rattle.cm_text.proofs.lemmas.found.Outline.{comment_fits}
 use Rattle.cm_text.proofs.scan.comment_piece.Goals as goal
 
 pub overflow_add-result-in-Some : goal.overflow_add-result-in-Some

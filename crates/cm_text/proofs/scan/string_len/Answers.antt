@@ -1,4 +1,4 @@
-use Rattle.cm_text.proofs.found.ScanLemmas.{past_taken, past_plain}
+use Rattle.cm_text.proofs.lemmas.found.Scan.{past_taken, past_plain}
 use Rattle.cm_text.proofs.scan.string_len.Goals as goal
 use Rattle.cm_text.proofs.scan.string_len.Goals.{then-behind_backslash, else-behind_backslash+else-byte-quote}
 

@@ -1,5 +1,5 @@
 use Rattle.std.proofs.Common.{arith}
-use Rattle.cm_text.proofs.found.OutlineLemmas.{close_in, string_found, string_unclosed, string_place, quote_start, quote_end}
+use Rattle.cm_text.proofs.lemmas.found.Outline.{close_in, string_found, string_unclosed, string_place, quote_start, quote_end}
 use Rattle.cm_text.proofs.scan.string_piece.Goals as goal
 
 pub overflow_add-len : goal.overflow_add-len

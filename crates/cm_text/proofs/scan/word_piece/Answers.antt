@@ -1,4 +1,4 @@
-use Rattle.cm_text.proofs.found.OutlineLemmas.{word_in, word_cut}
+use Rattle.cm_text.proofs.lemmas.found.Outline.{word_in, word_cut}
 use Rattle.cm_text.proofs.scan.word_piece.Goals as goal
 
 pub range-requires-clause-end_boundary : goal.range-requires-clause-end_boundary

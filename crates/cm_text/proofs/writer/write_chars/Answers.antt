@@ -1,5 +1,5 @@
 use Rattle.std.proofs.Common.{◌≡◌, ◌++◌, ◌∙◌, true, sym, string_bytes, rules}
-use Rattle.cm_text.proofs.JsonLemmas.{same_written}
+use Rattle.cm_text.proofs.lemmas.Json.{same_written}
 use Rattle.cm_text.proofs.writer.write_chars.Goals as goal
 
 pub returns-then-are_same : goal.returns-then-are_same

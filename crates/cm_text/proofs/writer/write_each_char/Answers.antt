@@ -1,4 +1,4 @@
-use Rattle.cm_text.proofs.found.CharLemmas.{passed_char}
+use Rattle.cm_text.proofs.lemmas.found.Char.{passed_char}
 use Rattle.cm_text.proofs.writer.write_each_char.Goals as goal
 
 pub loop-c-preserved : goal.loop-c-preserved

@@ -1,5 +1,5 @@
 use Rattle.std.proofs.Common.{◌≡◌, ◌++◌, List, ℕ, subst, OnOk, string_bytes}
-use Rattle.cm_text.proofs.JsonLemmas.{quoted_json}
+use Rattle.cm_text.proofs.lemmas.Json.{quoted_json}
 use Rattle.cm_text.proofs.writer.write_quoted.Goals as goal
 
 pub returns-else-quote-eq39 : goal.returns-else-quote-eq39

@@ -1,5 +1,5 @@
-use Rattle.cm_turn.proofs.LawProofs.{callers-made}
-use Rattle.cm_turn.proofs.LawProofs.{one-caller}
+use Rattle.cm_turn.proofs.lemmas.LawProofs.{callers-made}
+use Rattle.cm_turn.proofs.lemmas.LawProofs.{one-caller}
 use Rattle.cm_turn.proofs.laws.callers_differ.Goals as goal
 
 pub returns-clause-one : goal.returns-clause-one

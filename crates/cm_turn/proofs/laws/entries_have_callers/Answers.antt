@@ -1,5 +1,5 @@
-use Rattle.cm_turn.proofs.LawProofs.{no-others}
-use Rattle.cm_turn.proofs.LawProofs.{entries-mine}
+use Rattle.cm_turn.proofs.lemmas.LawProofs.{no-others}
+use Rattle.cm_turn.proofs.lemmas.LawProofs.{entries-mine}
 use Rattle.cm_turn.proofs.laws.entries_have_callers.Goals as goal
 
 pub returns-clause-mine : goal.returns-clause-mine

@@ -1,5 +1,5 @@
-use Rattle.cm_turn.proofs.LawProofs.{home-frame}
-use Rattle.cm_turn.proofs.LawProofs.{one-frame}
+use Rattle.cm_turn.proofs.lemmas.LawProofs.{home-frame}
+use Rattle.cm_turn.proofs.lemmas.LawProofs.{one-frame}
 use Rattle.cm_turn.proofs.laws.one_frame.Goals as goal
 
 pub returns-clause-seats : goal.returns-clause-seats

@@ -1,4 +1,4 @@
-use Rattle.cm_turn.proofs.LawProofs.{one-turn}
+use Rattle.cm_turn.proofs.lemmas.LawProofs.{one-turn}
 use Rattle.cm_turn.proofs.laws.one_has_the_turn.Goals as goal
 
 pub returns : goal.returns

@@ -1,4 +1,4 @@
-use Rattle.cm_turn.proofs.LawProofs.{only-callers}
+use Rattle.cm_turn.proofs.lemmas.LawProofs.{only-callers}
 use Rattle.cm_turn.proofs.laws.only_callers_wait.Goals as goal
 
 pub returns : goal.returns

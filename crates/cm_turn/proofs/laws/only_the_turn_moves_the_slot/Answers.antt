@@ -1,6 +1,6 @@
-use Rattle.cm_turn.proofs.SlotMoves.{arrivals_move}
-use Rattle.cm_turn.proofs.SlotMoves.{only_turn_moves}
-use Rattle.cm_turn.proofs.SlotMoves.{steps_move}
+use Rattle.cm_turn.proofs.lemmas.SlotMoves.{arrivals_move}
+use Rattle.cm_turn.proofs.lemmas.SlotMoves.{only_turn_moves}
+use Rattle.cm_turn.proofs.lemmas.SlotMoves.{steps_move}
 use Rattle.cm_turn.proofs.laws.only_the_turn_moves_the_slot.Goals as goal
 
 pub returns-clause-only : goal.returns-clause-only

@@ -1,4 +1,4 @@
-use Rattle.cm_turn.proofs.LawProofs.{seen-begins}
+use Rattle.cm_turn.proofs.lemmas.LawProofs.{seen-begins}
 use Rattle.cm_turn.proofs.laws.seen_lists_begin_the_history.Goals as goal
 
 pub returns : goal.returns

@@ -1,5 +1,5 @@
-use Rattle.cm_turn.proofs.LawProofs.{out-in-turn}
-use Rattle.cm_turn.proofs.LawProofs.{out-only}
+use Rattle.cm_turn.proofs.lemmas.LawProofs.{out-in-turn}
+use Rattle.cm_turn.proofs.lemmas.LawProofs.{out-only}
 use Rattle.cm_turn.proofs.laws.state_is_out_in_a_turn.Goals as goal
 
 pub returns-clause-only : goal.returns-clause-only

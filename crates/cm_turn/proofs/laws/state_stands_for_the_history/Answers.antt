@@ -1,5 +1,5 @@
-use Rattle.cm_turn.proofs.LawProofs.{turn-has-seen}
-use Rattle.cm_turn.proofs.LawProofs.{home-is-history}
+use Rattle.cm_turn.proofs.lemmas.LawProofs.{turn-has-seen}
+use Rattle.cm_turn.proofs.lemmas.LawProofs.{home-is-history}
 use Rattle.cm_turn.proofs.laws.state_stands_for_the_history.Goals as goal
 
 pub returns-clause-home : goal.returns-clause-home

@@ -1,7 +1,7 @@
-use Rattle.cm_turn.proofs.LawProofs.{all-held}
-use Rattle.cm_turn.proofs.LawProofs.{tickets-follow}
-use Rattle.cm_turn.proofs.LawProofs.{counts-tickets}
-use Rattle.cm_turn.proofs.LawProofs.{one-ticket}
+use Rattle.cm_turn.proofs.lemmas.LawProofs.{all-held}
+use Rattle.cm_turn.proofs.lemmas.LawProofs.{tickets-follow}
+use Rattle.cm_turn.proofs.lemmas.LawProofs.{counts-tickets}
+use Rattle.cm_turn.proofs.lemmas.LawProofs.{one-ticket}
 use Rattle.cm_turn.proofs.laws.tickets_queue.Goals as goal
 
 pub returns-clause-one : goal.returns-clause-one

@@ -1,6 +1,6 @@
 use Rattle.std.proofs.Common.{arith}
 use Rattle.cm_turn.specs.Views.{spent_view}
-use Rattle.cm_turn.proofs.PassSteps.{arrives}
+use Rattle.cm_turn.proofs.lemmas.PassSteps.{arrives}
 use Rattle.cm_turn.proofs.steps.arrive.Goals as goal
 
 pub load_new_seat-requires : goal.load_new_seat-requires

@@ -1,5 +1,5 @@
 use Rattle.std.proofs.Common.{arith}
-use Rattle.cm_turn.proofs.Calls.{draws}
+use Rattle.cm_turn.proofs.lemmas.Calls.{draws}
 use Rattle.cm_turn.proofs.steps.draw_ticket.Goals as goal
 
 pub fetch_add-requires : goal.fetch_add-requires

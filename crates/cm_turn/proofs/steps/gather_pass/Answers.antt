@@ -1,5 +1,5 @@
 use Rattle.std.proofs.Common.{arith}
-use Rattle.cm_turn.proofs.PassSteps.{gathers}
+use Rattle.cm_turn.proofs.lemmas.PassSteps.{gathers}
 use Rattle.cm_turn.proofs.steps.gather_pass.Goals as goal
 
 pub join_seat-requires : goal.join_seat-requires

@@ -1,5 +1,5 @@
 use Rattle.std.proofs.Common.{arith}
-use Rattle.cm_turn.proofs.Calls.{looks}
+use Rattle.cm_turn.proofs.lemmas.Calls.{looks}
 use Rattle.cm_turn.proofs.steps.is_served.Goals as goal
 
 pub load-requires : goal.load-requires

@@ -1,5 +1,5 @@
 use Rattle.std.proofs.Common.{arith}
-use Rattle.cm_turn.proofs.Calls.{learns}
+use Rattle.cm_turn.proofs.lemmas.Calls.{learns}
 use Rattle.cm_turn.proofs.steps.learn_told.Goals as goal
 
 pub load-requires : goal.load-requires

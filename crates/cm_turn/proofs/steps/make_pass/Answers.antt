@@ -1,5 +1,5 @@
 use Rattle.std.proofs.Common.{arith}
-use Rattle.cm_turn.proofs.PassSteps.{makes_one}
+use Rattle.cm_turn.proofs.lemmas.PassSteps.{makes_one}
 use Rattle.cm_turn.proofs.steps.make_pass.Goals as goal
 
 pub split_seat-requires : goal.split_seat-requires

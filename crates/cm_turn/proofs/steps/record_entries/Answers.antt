@@ -1,5 +1,5 @@
 use Rattle.std.proofs.Common.{arith}
-use Rattle.cm_turn.proofs.Calls.{records}
+use Rattle.cm_turn.proofs.lemmas.Calls.{records}
 use Rattle.cm_turn.proofs.steps.record_entries.Goals as goal
 
 pub load-requires : goal.load-requires

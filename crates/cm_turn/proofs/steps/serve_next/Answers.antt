@@ -1,7 +1,7 @@
 use Rattle.std.proofs.Common.{arith, ap, ◌∙◌, ◌+◌, ◌%◌, ◌^◌}
 use Rattle.cm_turn.specs.Plays.{ticket_word}
-use Rattle.cm_turn.proofs.Calls.{passes_on}
-use Rattle.cm_turn.proofs.Tickets.{mod_suc}
+use Rattle.cm_turn.proofs.lemmas.Calls.{passes_on}
+use Rattle.cm_turn.proofs.lemmas.Tickets.{mod_suc}
 use Rattle.cm_turn.proofs.steps.serve_next.Goals as goal
 
 pub fetch_add-served-requires : goal.fetch_add-served-requires

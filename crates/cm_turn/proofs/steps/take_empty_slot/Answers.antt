@@ -1,5 +1,5 @@
 use Rattle.std.proofs.Common.{arith}
-use Rattle.cm_turn.proofs.Calls.{takes_empty}
+use Rattle.cm_turn.proofs.lemmas.Calls.{takes_empty}
 use Rattle.cm_turn.proofs.steps.take_empty_slot.Goals as goal
 
 pub load-requires : goal.load-requires

@@ -1,5 +1,5 @@
 use Rattle.std.proofs.Common.{arith, ap, ◌∙◌}
-use Rattle.cm_turn.proofs.RecordsState.{notes, tells}
+use Rattle.cm_turn.proofs.lemmas.RecordsState.{notes, tells}
 use Rattle.cm_turn.proofs.steps.tell_seen.Goals as goal
 
 pub split_seat-note-requires : goal.split_seat-note-requires

@@ -1,6 +1,6 @@
 use Rattle.std.proofs.Common.{ap, ◌∙◌, sym, subst}
 use Rattle.cm_turn.specs.Passes.{AreAll, new_passes}
-use Rattle.cm_turn.proofs.AllPasses.{AreAll-new, AreAll-kept}
+use Rattle.cm_turn.proofs.lemmas.AllPasses.{AreAll-new, AreAll-kept}
 use Rattle.cm_turn.proofs.tests.counted.Goals as goal
 
 pub in_threads-requires-after_bounds : goal.in_threads-requires-after_bounds

@@ -3,7 +3,7 @@ use Rattle.std.specs.Prelude.{IsSome}
 use Rattle.std.proofs.lemmas.List.Elements.{All-push}
 use Rattle.cm_turn.specs.Views.{with_pass}
 use Rattle.cm_turn.specs.Passes.{PassView, view_in}
-use Rattle.cm_turn.proofs.Closing.{gathered_more}
+use Rattle.cm_turn.proofs.lemmas.Closing.{gathered_more}
 use Rattle.cm_turn.proofs.turn.gather_passes.Goals as goal
 
 pub loop-pass-preserved : goal.loop-pass-preserved

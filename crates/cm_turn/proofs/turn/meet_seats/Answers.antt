@@ -1,6 +1,6 @@
 use Rattle.std.proofs.Common.{rules}
 use Rattle.cm_turn.specs.History.{StartsWith, longer}
-use Rattle.cm_turn.proofs.Histories.{longer-same}
+use Rattle.cm_turn.proofs.lemmas.Histories.{longer-same}
 use Rattle.cm_turn.proofs.turn.meet_seats.Goals as goal
 
 pub returns-clause-same : goal.returns-clause-same

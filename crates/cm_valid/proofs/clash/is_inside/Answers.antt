@@ -1,6 +1,6 @@
 use Rattle.std.proofs.lemmas.Bool.Decides.{same_from_decides}
 use Rattle.cm_decl.specs.Rules as rule
-use Rattle.cm_valid.proofs.ClashLemmas.{inside_decides}
+use Rattle.cm_valid.proofs.lemmas.Clash.{inside_decides}
 use Rattle.cm_valid.proofs.clash.is_inside.Goals as goal
 
 pub returns : goal.returns

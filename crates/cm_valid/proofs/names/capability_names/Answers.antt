@@ -3,7 +3,7 @@ use Rattle.std.specs.List.{list_any}
 use Rattle.cm_decl.specs.declared.rows.Capability.{Capability as Declared}
 use Rattle.cm_decl.specs.Same as spec
 use Rattle.cm_valid.specs.Lookup.{has}
-use Rattle.cm_valid.proofs.NameLemmas.{flipped, named_more, named_same}
+use Rattle.cm_valid.proofs.lemmas.Name.{flipped, named_more, named_same}
 use Rattle.cm_valid.proofs.names.capability_names.Goals as goal
 use Rattle.cm_valid.proofs.names.capability_names.Goals.{then-same_kind+in_ok-insert, else-same_kind}
 

@@ -1,6 +1,6 @@
 use Rattle.std.proofs.Common.{ℕ, List, ◌∙◌, ap, bytes_eq}
 use Rattle.cm_decl.specs.declared.rows.Child.{Child as Declared}
-use Rattle.cm_valid.proofs.NameLemmas.{flipped, named_more}
+use Rattle.cm_valid.proofs.lemmas.Name.{flipped, named_more}
 use Rattle.cm_valid.proofs.names.child_names.Goals as goal
 
 pub loop-child-preserved : goal.loop-child-preserved

@@ -1,6 +1,6 @@
 use Rattle.std.proofs.Common.{ℕ, List, ◌∙◌, ap, bytes_eq}
 use Rattle.cm_decl.specs.declared.rows.Collection.{Collection as Declared}
-use Rattle.cm_valid.proofs.NameLemmas.{flipped, named_more}
+use Rattle.cm_valid.proofs.lemmas.Name.{flipped, named_more}
 use Rattle.cm_valid.proofs.names.collection_names.Goals as goal
 
 pub loop-collection-preserved : goal.loop-collection-preserved

@@ -1,4 +1,4 @@
-use Rattle.cm_valid.proofs.NearLemmas.{in_order, rows_apart}
+use Rattle.cm_valid.proofs.lemmas.Near.{in_order, rows_apart}
 use Rattle.cm_valid.proofs.near.apart.Goals as goal
 
 pub apart_keys-requires : goal.apart_keys-requires

@@ -2,7 +2,7 @@ use Rattle.std.proofs.Common.{◌≡◌, ◌+◌, ◌<◌, length, false, Some, 
 use Rattle.std.specs.Prelude.{slice_get, min, max}
 use Rattle.std.proofs.lemmas.Option.{slice_get_read}
 use Rattle.cm_valid.specs.Near as spec
-use Rattle.cm_valid.proofs.NearLemmas.{Walked, walk_inwards, walk_along, walk_on, walk_ends}
+use Rattle.cm_valid.proofs.lemmas.Near.{Walked, walk_inwards, walk_along, walk_on, walk_ends}
 use Rattle.cm_valid.proofs.near.apart_keys.Goals as goal
 use Rattle.cm_valid.proofs.near.apart_keys.Goals.{then-covers+then-next-first, then-covers+else-next-first, else-covers}
 

@@ -1,4 +1,4 @@
-use Rattle.cm_valid.proofs.NearLemmas.{Walked}
+use Rattle.cm_valid.proofs.lemmas.Near.{Walked}
 use Rattle.cm_valid.proofs.near.apart_keys.Given as goal
 
 abbrev pub invariant-loop-index : goal.invariant-loop-index

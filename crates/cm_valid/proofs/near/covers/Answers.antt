@@ -2,7 +2,7 @@ use Rattle.std.proofs.Common.{rules, ◌≡◌, ◌∙◌, sym, ap, length, true
 use Rattle.std.specs.Prelude.{nat_eq}
 use Rattle.std.specs.List.{starts_with}
 use Rattle.std.proofs.lemmas.Bool.{eq-eqb}
-use Rattle.cm_valid.proofs.NearLemmas.{covers_is, covers_same}
+use Rattle.cm_valid.proofs.lemmas.Near.{covers_is, covers_same}
 use Rattle.cm_valid.proofs.near.covers.Goals as goal
 
 pub returns-then-not-starts_with : goal.returns-then-not-starts_with

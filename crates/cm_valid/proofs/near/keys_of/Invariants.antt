@@ -1,4 +1,4 @@
-use Rattle.cm_valid.proofs.NearLemmas.{AreKeysBelow}
+use Rattle.cm_valid.proofs.lemmas.Near.{AreKeysBelow}
 use Rattle.cm_valid.proofs.near.keys_of.Given as goal
 
 abbrev pub invariant-loop-row : goal.invariant-loop-row

@@ -1,5 +1,5 @@
 use Rattle.std.proofs.Common.{◌+◌, sym, ◌∙◌, arith}
-use Rattle.cm_valid.proofs.PassLemmas.{some_anywhere, ranked}
+use Rattle.cm_valid.proofs.lemmas.Pass.{some_anywhere, ranked}
 use Rattle.cm_valid.proofs.pass.first_in_sections.Goals as goal
 
 pub returns-then-is_some : goal.returns-then-is_some

@@ -1,6 +1,6 @@
 use Rattle.std.proofs.Common.{◌≡◌, arith, sym, ◌∙◌}
 use Rattle.cm_valid.specs.Parts.{rows_of}
-use Rattle.cm_valid.proofs.PassLemmas.{none_yet, none_more, none_in, some_in}
+use Rattle.cm_valid.proofs.lemmas.Pass.{none_yet, none_more, none_in, some_in}
 use Rattle.cm_valid.proofs.pass.section_fault.Goals as goal
 
 pub loop-row-init : goal.loop-row-init

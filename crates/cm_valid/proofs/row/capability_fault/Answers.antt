@@ -4,7 +4,7 @@ use Rattle.cm_decl.specs.declared.rows.Capability.{Capability}
 use Rattle.cm_decl.specs.declared.section.Section.TheVariants.{Capabilities}
 use Rattle.cm_valid.specs.declared.found.FoundFault.{FoundFault}
 use Rattle.cm_valid.specs.Parts.{At, FindsFault}
-use Rattle.cm_valid.proofs.RowLemmas.{IsNamed, named_apart, named_found}
+use Rattle.cm_valid.proofs.lemmas.Row.{IsNamed, named_apart, named_found}
 use Rattle.cm_valid.proofs.row.capability_fault.Goals as goal
 
 named : (d : Decl) (row : ℕ) → IsNamed d Capabilities (λ (k : Capability). k.name) d.capabilities row

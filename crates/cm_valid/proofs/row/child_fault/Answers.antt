@@ -4,7 +4,7 @@ use Rattle.cm_decl.specs.declared.rows.Child.{Child}
 use Rattle.cm_decl.specs.declared.section.Section.TheVariants.{Children}
 use Rattle.cm_valid.specs.declared.found.FoundFault.{FoundFault}
 use Rattle.cm_valid.specs.Parts.{At, FindsFault}
-use Rattle.cm_valid.proofs.RowLemmas.{IsNamed, named_apart, named_found}
+use Rattle.cm_valid.proofs.lemmas.Row.{IsNamed, named_apart, named_found}
 use Rattle.cm_valid.proofs.row.child_fault.Goals as goal
 
 named : (d : Decl) (row : ℕ) → IsNamed d Children (λ (k : Child). k.name) d.children row

@@ -8,8 +8,8 @@ use Rattle.cm_decl.specs.Rules.{RepeatedName}
 use Rattle.cm_decl.specs.Clashes.{place, clash, same_collection_name}
 use Rattle.cm_valid.specs.declared.found.FoundFault.{FoundFault}
 use Rattle.cm_valid.specs.Parts.{At, FindsFault}
-use Rattle.cm_valid.proofs.ClashLemmas.{same_near}
-use Rattle.cm_valid.proofs.RowLemmas.{row_at, looked_through, first_named, clash_apart, clash_child, clash_collection, no_child, some_child, named_before, named_once, found_at}
+use Rattle.cm_valid.proofs.lemmas.Clash.{same_near}
+use Rattle.cm_valid.proofs.lemmas.Row.{row_at, looked_through, first_named, clash_apart, clash_child, clash_collection, no_child, some_child, named_before, named_once, found_at}
 use Rattle.cm_valid.proofs.row.collection_fault.Goals as goal
 
 -- what was found among the earlier collections

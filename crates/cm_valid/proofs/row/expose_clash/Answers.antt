@@ -3,8 +3,8 @@ use Rattle.std.specs.Prelude.{slice_get, position}
 use Rattle.cm_decl.specs.declared.rows.Give.{Give}
 use Rattle.cm_decl.specs.declared.section.Section.TheVariants.{Exposes}
 use Rattle.cm_decl.specs.Clashes.{same_expose}
-use Rattle.cm_valid.proofs.ClashLemmas.{same_near}
-use Rattle.cm_valid.proofs.RowLemmas.{row_at, clash_of, clash_apart}
+use Rattle.cm_valid.proofs.lemmas.Clash.{same_near}
+use Rattle.cm_valid.proofs.lemmas.Row.{row_at, clash_of, clash_apart}
 use Rattle.cm_valid.proofs.row.expose_clash.Goals as goal
 
 pub returns-then-row-apart : goal.returns-then-row-apart

@@ -4,8 +4,8 @@ use Rattle.cm_decl.specs.declared.rows.Offer.{Offer}
 use Rattle.cm_decl.specs.declared.section.Section.TheVariants.{Offers}
 use Rattle.cm_decl.specs.Clashes.{same_target}
 use Rattle.cm_valid.specs.Keys.{offer_key}
-use Rattle.cm_valid.proofs.ClashLemmas.{target_near}
-use Rattle.cm_valid.proofs.RowLemmas.{row_at, clash_of, clash_apart}
+use Rattle.cm_valid.proofs.lemmas.Clash.{target_near}
+use Rattle.cm_valid.proofs.lemmas.Row.{row_at, clash_of, clash_apart}
 use Rattle.cm_valid.proofs.row.offer_clash.Goals as goal
 
 pub returns-then-row-apart : goal.returns-then-row-apart

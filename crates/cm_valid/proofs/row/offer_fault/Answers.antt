@@ -7,7 +7,7 @@ use Rattle.cm_decl.specs.Breaks.{breaks, has_unknown_source, has_undeclared_sour
 use Rattle.cm_decl.specs.Clashes.{place, clash}
 use Rattle.cm_valid.specs.declared.found.FoundFault.{FoundFault}
 use Rattle.cm_valid.specs.Parts.{At, FindsFault}
-use Rattle.cm_valid.proofs.RowLemmas.{row_at, passes, finds, finds_none}
+use Rattle.cm_valid.proofs.lemmas.Row.{row_at, passes, finds, finds_none}
 use Rattle.cm_valid.proofs.row.offer_fault.Goals as goal
 
 pub returns-then-has_unknown_end : goal.returns-then-has_unknown_end

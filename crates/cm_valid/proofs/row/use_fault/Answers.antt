@@ -9,8 +9,8 @@ use Rattle.cm_decl.specs.Clashes.{place, clash, same_path, are_paths_nested}
 use Rattle.cm_valid.specs.declared.found.FoundFault.{FoundFault}
 use Rattle.cm_valid.specs.Keys.{usage_key}
 use Rattle.cm_valid.specs.Parts.{At, FindsFault}
-use Rattle.cm_valid.proofs.ClashLemmas.{path_near, nested_near}
-use Rattle.cm_valid.proofs.RowLemmas.{row_at, passes, clash_of, clash_apart, finds, finds_none, found_at}
+use Rattle.cm_valid.proofs.lemmas.Clash.{path_near, nested_near}
+use Rattle.cm_valid.proofs.lemmas.Row.{row_at, passes, clash_of, clash_apart, finds, finds_none, found_at}
 use Rattle.cm_valid.proofs.row.use_fault.Goals as goal
 
 -- what was found among the earlier uses, of which none has the path

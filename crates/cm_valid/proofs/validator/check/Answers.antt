@@ -3,11 +3,11 @@ use Rattle.cm_decl.specs.Valid.{cycle_fault}
 use Rattle.cm_deps.specs.Outcome.{IsOutcome}
 use Rattle.cm_deps.specs.declared.outcome.Order.{Order}
 use Rattle.cm_deps.specs.declared.outcome.Order.TheVariants.{Ordered, Cycle}
-use Rattle.cm_deps.proofs.given.Outcomes.{ordered_acyclic}
+use Rattle.cm_deps.proofs.lemmas.given.Outcomes.{ordered_acyclic}
 use Rattle.cm_valid.specs.declared.found.FoundFault.{FoundFault}
 use Rattle.cm_valid.specs.Parts.{Anywhere, FindsFault, fault_of}
-use Rattle.cm_valid.proofs.CycleLemmas.{acyclic_free}
-use Rattle.cm_valid.proofs.PassLemmas.{is_first, is_faultless}
+use Rattle.cm_valid.proofs.lemmas.Cycle.{acyclic_free}
+use Rattle.cm_valid.proofs.lemmas.Pass.{is_first, is_faultless}
 use Rattle.cm_valid.proofs.validator.check.Goals as goal
 
 pub returns-in-Some-clause-fault : goal.returns-in-Some-clause-fault

@@ -1,7 +1,7 @@
 use Rattle.std.proofs.Common.{◌==◌}
 use Rattle.cm_world.specs.declared.row.Row.{Row}
-use Rattle.cm_walk.proofs.ways.Monikers.{loop-lower}
-use Rattle.cm_walk.proofs.ways.Up.{no_row, no_mark_here, mark_found, number_hit, number_missed, parent_told}
+use Rattle.cm_walk.proofs.lemmas.ways.Monikers.{loop-lower}
+use Rattle.cm_walk.proofs.lemmas.ways.Up.{no_row, no_mark_here, mark_found, number_hit, number_missed, parent_told}
 use Rattle.cm_walk.proofs.above.is_below.Goals as goal
 
 pub up-smaller : goal.up-smaller

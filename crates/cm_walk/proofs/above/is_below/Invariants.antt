@@ -1,6 +1,6 @@
 use Rattle.std.proofs.Common.{◌≡◌, ◌==◌, length}
 use Rattle.cm_world.specs.Rows.{at_or_above, is_below}
-use Rattle.cm_walk.proofs.ways.Monikers.{height}
+use Rattle.cm_walk.proofs.lemmas.ways.Monikers.{height}
 use Rattle.cm_walk.proofs.above.is_below.Given as goal
 
 -- what is left of the way up decides

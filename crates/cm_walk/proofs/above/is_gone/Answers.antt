@@ -1,5 +1,5 @@
 use Rattle.std.proofs.Common.{◌∙◌}
-use Rattle.cm_walk.proofs.ways.Up.{gone_none, gone_above}
+use Rattle.cm_walk.proofs.lemmas.ways.Up.{gone_none, gone_above}
 use Rattle.cm_walk.proofs.above.is_gone.Goals as goal
 
 pub returns-in_default : goal.returns-in_default

@@ -1,5 +1,5 @@
 use Rattle.std.proofs.Common.{◌∙◌}
-use Rattle.cm_walk.proofs.routes.Offers.{expose_by_index}
+use Rattle.cm_walk.proofs.lemmas.routes.Offers.{expose_by_index}
 use Rattle.cm_walk.proofs.find.exposed.Goals as goal
 
 pub returns-then-index-lt4294967295 : goal.returns-then-index-lt4294967295

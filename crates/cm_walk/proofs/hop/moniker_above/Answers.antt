@@ -1,5 +1,5 @@
 use Rattle.std.proofs.Common.{◌≡◌, ◌-◌, length, take, rules}
-use Rattle.cm_walk.proofs.ways.Placed.{names_above}
+use Rattle.cm_walk.proofs.lemmas.ways.Placed.{names_above}
 use Rattle.cm_walk.proofs.hop.moniker_above.Goals as goal
 
 pub returns : goal.returns

@@ -1,5 +1,5 @@
 use Rattle.std.proofs.Common.{◌≡◌, ◌++◌, ◌∷◌, [], Some, refl, ap, ◌∙◌, rules}
-use Rattle.cm_walk.proofs.ways.Monikers.{loop-more, place-lower, moniker-made}
+use Rattle.cm_walk.proofs.lemmas.ways.Monikers.{loop-more, place-lower, moniker-made}
 use Rattle.cm_walk.proofs.hop.names_up.Goals as goal
 
 pub up-smaller : goal.up-smaller

@@ -1,4 +1,4 @@
-use Rattle.cm_walk.proofs.ways.Leading.{finds_as_located}
+use Rattle.cm_walk.proofs.lemmas.ways.Leading.{finds_as_located}
 use Rattle.cm_walk.proofs.laws.finds_as_located.Goals as goal
 
 pub returns : goal.returns

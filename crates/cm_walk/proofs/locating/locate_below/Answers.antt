@@ -1,8 +1,8 @@
 use Rattle.std.proofs.Common.{is_some, refl, sym, ap, ◌∙◌, ◌<◌, length, drop, arith}
 use Rattle.std.proofs.lemmas.List.{length-drop}
 use Rattle.cm_world.specs.Located.{located_from}
-use Rattle.cm_world.proofs.trees.Walks.{child_lives}
-use Rattle.cm_walk.proofs.ways.Leading.{leads_on, two_more, stuck}
+use Rattle.cm_world.proofs.lemmas.trees.Walks.{child_lives}
+use Rattle.cm_walk.proofs.lemmas.ways.Leading.{leads_on, two_more, stuck}
 use Rattle.cm_walk.proofs.locating.locate_below.Goals as goal
 
 pub loop-depth-preserved : goal.loop-depth-preserved

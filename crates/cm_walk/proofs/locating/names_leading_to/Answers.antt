@@ -1,6 +1,6 @@
 use Rattle.std.proofs.Common.{refl, sym, subst}
 use Rattle.cm_walk.specs.Leading.{LeadsDownTo}
-use Rattle.cm_walk.proofs.ways.Leading.{begins_at}
+use Rattle.cm_walk.proofs.lemmas.ways.Leading.{begins_at}
 use Rattle.cm_walk.proofs.locating.names_leading_to.Goals as goal
 
 pub returns-then-starts_with : goal.returns-then-starts_with

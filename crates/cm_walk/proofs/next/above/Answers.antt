@@ -1,8 +1,8 @@
 use Rattle.std.proofs.Common.{◌≡◌, subst, IfOk}
 use Rattle.cm_world.specs.Rows.{row_of}
 use Rattle.cm_walk.specs.Walking.{as_next}
-use Rattle.cm_walk.proofs.ways.Placed.{told_parent}
-use Rattle.cm_walk.proofs.routes.Sources.{above_root}
+use Rattle.cm_walk.proofs.lemmas.ways.Placed.{told_parent}
+use Rattle.cm_walk.proofs.lemmas.routes.Sources.{above_root}
 use Rattle.cm_walk.proofs.next.above.Goals as goal
 
 pub returns-in-None : goal.returns-in-None

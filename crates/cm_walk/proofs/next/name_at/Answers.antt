@@ -1,5 +1,5 @@
 use Rattle.std.proofs.Common.{◌≡◌, ◌-◌, length, Some, slice_get, rules}
-use Rattle.cm_walk.proofs.ways.Placed.{last_name}
+use Rattle.cm_walk.proofs.lemmas.ways.Placed.{last_name}
 use Rattle.cm_walk.proofs.next.name_at.Goals as goal
 
 pub returns-in-Some : goal.returns-in-Some

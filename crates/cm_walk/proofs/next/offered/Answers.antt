@@ -2,7 +2,7 @@ use Rattle.std.proofs.Common.{◌∙◌, ap, sym}
 use Rattle.std.specs.Prelude.{option_and_then}
 use Rattle.cm_world.specs.Rows.{decl_of}
 use Rattle.cm_walk.specs.Walking.{as_station}
-use Rattle.cm_walk.proofs.routes.Sources.{offered_to, not_offered}
+use Rattle.cm_walk.proofs.lemmas.routes.Sources.{offered_to, not_offered}
 use Rattle.cm_walk.proofs.next.offered.Goals as goal
 
 pub returns-in_ok-station-in-Some-offered_by : goal.returns-in_ok-station-in-Some-offered_by

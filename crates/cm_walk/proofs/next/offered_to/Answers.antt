@@ -1,6 +1,6 @@
 use Rattle.std.proofs.Common.{◌∙◌, ap, sym}
 use Rattle.std.specs.Option.{option_copied}
-use Rattle.cm_walk.proofs.routes.Offers.{no_offer_by_index, index_is}
+use Rattle.cm_walk.proofs.lemmas.routes.Offers.{no_offer_by_index, index_is}
 use Rattle.cm_walk.proofs.next.offered_to.Goals as goal
 
 pub returns-in_err-index : goal.returns-in_err-index

@@ -1,8 +1,8 @@
 use Rattle.std.proofs.Common.{sym}
 use Rattle.cm_world.specs.Rows.{has_parent}
 use Rattle.cm_walk.specs.Ahead.{is_in_set}
-use Rattle.cm_walk.proofs.descents.Behind.{left_falls}
-use Rattle.cm_walk.proofs.descents.Adding.{seen_first, seen_more, seen_all}
+use Rattle.cm_walk.proofs.lemmas.descents.Behind.{left_falls}
+use Rattle.cm_walk.proofs.lemmas.descents.Adding.{seen_first, seen_more, seen_all}
 use Rattle.cm_walk.proofs.subtree.put_children.Goals as goal
 
 pub next-init : goal.next-init

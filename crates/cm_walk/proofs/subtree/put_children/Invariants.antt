@@ -1,8 +1,8 @@
 use Rattle.std.proofs.Common.{◌≡◌, ◌||◌, ℕ}
 use Rattle.cm_world.specs.Rows.{has_parent}
 use Rattle.cm_walk.specs.Ahead.{is_in_set}
-use Rattle.cm_walk.proofs.descents.Behind.{left}
-use Rattle.cm_walk.proofs.descents.Adding.{is_seen}
+use Rattle.cm_walk.proofs.lemmas.descents.Behind.{left}
+use Rattle.cm_walk.proofs.lemmas.descents.Adding.{is_seen}
 use Rattle.cm_walk.proofs.subtree.put_children.Given as goal
 
 -- the children so far are in the set, and what was there

@@ -1,4 +1,4 @@
-use Rattle.cm_walk.proofs.descents.Descending.{descends_first, descends_more, descends_less, descends_all}
+use Rattle.cm_walk.proofs.lemmas.descents.Descending.{descends_first, descends_more, descends_less, descends_all}
 use Rattle.cm_walk.proofs.subtree.rows_below.Goals as goal
 
 pub next-init : goal.next-init

@@ -1,4 +1,4 @@
-use Rattle.cm_walk.proofs.descents.Descending.{IsDescending, to_find}
+use Rattle.cm_walk.proofs.lemmas.descents.Descending.{IsDescending, to_find}
 use Rattle.cm_walk.proofs.subtree.rows_below.Given as goal
 
 -- what is found so far, and what is ahead of it

@@ -4,7 +4,7 @@ use Rattle.cm_world.specs.declared.route.Walked.TheVariants as walked
 use Rattle.cm_world.specs.Stations.{Station as Place}
 use Rattle.cm_walk.specs.declared.walking.Step.TheVariants as taken
 use Rattle.cm_walk.specs.Walking.{as_station, as_next, EndsAt, IsBehind, NextLeads, Decides}
-use Rattle.cm_walk.proofs.routes.StepsAlong.{at_refused, at_fitting}
+use Rattle.cm_walk.proofs.lemmas.routes.StepsAlong.{at_refused, at_fitting}
 use Rattle.cm_walk.proofs.walking.decide.Goals as goal
 
 pub returns-in-Some : goal.returns-in-Some

@@ -1,6 +1,6 @@
 use Rattle.std.proofs.Common.{refl}
 use Rattle.cm_walk.specs.Walking.{as_station}
-use Rattle.cm_walk.proofs.routes.StepsAlong.{begins_way, goes_way, falls_way, ends_way}
+use Rattle.cm_walk.proofs.lemmas.routes.StepsAlong.{begins_way, goes_way, falls_way, ends_way}
 use Rattle.cm_walk.proofs.walking.follow.Goals as goal
 
 pub walk-init : goal.walk-init

@@ -2,7 +2,7 @@ use Rattle.std.proofs.Common.{List}
 use Rattle.std.proofs.lemmas.Result.{IfOk-weaker}
 use Rattle.cm_world.specs.Stations.{Station as Place}
 use Rattle.cm_walk.specs.Walking.{as_station, as_next, EndsAt, IsBehind, Decides, StepsAlong}
-use Rattle.cm_walk.proofs.routes.StepsAlong.{tries}
+use Rattle.cm_walk.proofs.lemmas.routes.StepsAlong.{tries}
 use Rattle.cm_walk.proofs.walking.try_station.Goals as goal
 
 pub returns : goal.returns

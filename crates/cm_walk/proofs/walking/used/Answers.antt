@@ -1,6 +1,6 @@
 use Rattle.std.proofs.Common.{◌∙◌, ap, sym}
 use Rattle.std.specs.Option.{option_copied}
-use Rattle.cm_walk.proofs.routes.Offers.{no_use_by_index, use_index_is}
+use Rattle.cm_walk.proofs.lemmas.routes.Offers.{no_use_by_index, use_index_is}
 use Rattle.cm_walk.proofs.walking.used.Goals as goal
 
 pub returns-in_err-index : goal.returns-in_err-index

@@ -1,7 +1,7 @@
 use Rattle.std.proofs.Common.{sym, ◌∙◌, ap}
-use Rattle.cm_world.proofs.trees.Walks.{begins_down}
+use Rattle.cm_world.proofs.lemmas.trees.Walks.{begins_down}
 use Rattle.cm_walk.specs.Walking.{as_station, as_named}
-use Rattle.cm_walk.proofs.ways.Placed.{first_placed}
+use Rattle.cm_walk.proofs.lemmas.ways.Placed.{first_placed}
 use Rattle.cm_walk.proofs.walking.walk.Goals as goal
 
 pub follow-requires-clause-down : goal.follow-requires-clause-down

@@ -1,4 +1,4 @@
-use Rattle.cm_world.proofs.examples.Shutdowns.{doomed_is_legal, pick_waits, purged_is_legal}
+use Rattle.cm_world.proofs.lemmas.examples.Shutdowns.{doomed_is_legal, pick_waits, purged_is_legal}
 use Rattle.cm_world.proofs.laws.destroys.Goals as goal
 
 pub returns : goal.returns

@@ -1,4 +1,4 @@
-use Rattle.cm_world.proofs.examples.Expiries.{stopping_is_legal, expired_is_legal, closed_is_legal, once_is_legal}
+use Rattle.cm_world.proofs.lemmas.examples.Expiries.{stopping_is_legal, expired_is_legal, closed_is_legal, once_is_legal}
 use Rattle.cm_world.proofs.laws.expires.Goals as goal
 
 pub returns : goal.returns

@@ -1,4 +1,4 @@
-use Rattle.cm_world.proofs.examples.Routes.{full_is_legal}
+use Rattle.cm_world.proofs.lemmas.examples.Routes.{full_is_legal}
 use Rattle.cm_world.proofs.laws.fills.Goals as goal
 
 pub returns : goal.returns

@@ -1,4 +1,4 @@
-use Rattle.cm_world.proofs.examples.Routes.{route_is_legal, finds_no_other, unoffered_is_legal, unexposed_is_legal}
+use Rattle.cm_world.proofs.lemmas.examples.Routes.{route_is_legal, finds_no_other, unoffered_is_legal, unexposed_is_legal}
 use Rattle.cm_world.proofs.laws.finds_routes.Goals as goal
 
 pub returns : goal.returns

@@ -1,4 +1,4 @@
-use Rattle.cm_world.proofs.trees.Histories.{Legal-push, replay-push}
+use Rattle.cm_world.proofs.lemmas.trees.Histories.{Legal-push, replay-push}
 use Rattle.cm_world.proofs.laws.goes_on.Goals as goal
 
 pub returns : goal.returns

@@ -1,4 +1,4 @@
-use Rattle.cm_world.proofs.examples.Actions.{joined_is_legal, failed_is_legal, await_waits, awaited_once, stop_waits}
+use Rattle.cm_world.proofs.lemmas.examples.Actions.{joined_is_legal, failed_is_legal, await_waits, awaited_once, stop_waits}
 use Rattle.cm_world.proofs.laws.joins.Goals as goal
 
 pub returns : goal.returns

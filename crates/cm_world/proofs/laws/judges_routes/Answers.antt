@@ -1,4 +1,4 @@
-use Rattle.cm_world.proofs.examples.Routes.{subdirs_are_joined, rights_are_weak, optional_meets_void, required_fails}
+use Rattle.cm_world.proofs.lemmas.examples.Routes.{subdirs_are_joined, rights_are_weak, optional_meets_void, required_fails}
 use Rattle.cm_world.proofs.laws.judges_routes.Goals as goal
 
 pub returns : goal.returns

@@ -1,4 +1,4 @@
-use Rattle.cm_world.proofs.examples.Actions.{opened_is_legal}
+use Rattle.cm_world.proofs.lemmas.examples.Actions.{opened_is_legal}
 use Rattle.cm_world.proofs.laws.opens.Goals as goal
 
 pub returns : goal.returns

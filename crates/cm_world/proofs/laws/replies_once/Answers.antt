@@ -1,4 +1,4 @@
-use Rattle.cm_world.proofs.trees.Once.{replies_once}
+use Rattle.cm_world.proofs.lemmas.trees.Once.{replies_once}
 use Rattle.cm_world.proofs.laws.replies_once.Goals as goal
 
 pub returns : goal.returns

@@ -1,4 +1,4 @@
-use Rattle.cm_world.proofs.examples.Fresh.{starts_sound}
+use Rattle.cm_world.proofs.lemmas.examples.Fresh.{starts_sound}
 use Rattle.cm_world.proofs.laws.starts_sound.Goals as goal
 
 pub returns : goal.returns

@@ -1,4 +1,4 @@
-use Rattle.cm_world.proofs.trees.Walks.{begins_down, steps_fall}
+use Rattle.cm_world.proofs.lemmas.trees.Walks.{begins_down, steps_fall}
 use Rattle.cm_world.proofs.laws.steps_fall.Goals as goal
 
 pub returns : goal.returns

@@ -1,4 +1,4 @@
-use Rattle.cm_world.proofs.examples.Shutdowns.{mid_waits, client_may_stop}
+use Rattle.cm_world.proofs.lemmas.examples.Shutdowns.{mid_waits, client_may_stop}
 use Rattle.cm_world.proofs.laws.stops_clients_first.Goals as goal
 
 pub returns : goal.returns

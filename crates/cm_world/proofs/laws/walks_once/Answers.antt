@@ -1,4 +1,4 @@
-use Rattle.cm_world.proofs.trees.Chains.{walked_once}
+use Rattle.cm_world.proofs.lemmas.trees.Chains.{walked_once}
 use Rattle.cm_world.proofs.laws.walks_once.Goals as goal
 
 pub returns : goal.returns

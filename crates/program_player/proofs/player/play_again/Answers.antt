@@ -1,5 +1,5 @@
 use denote.Param.Send.{sendable}
-use Rattle.cm_gate.proofs.Crossing.{planned_gates_send}
+use Rattle.cm_gate.proofs.lemmas.Crossing.{planned_gates_send}
 use Rattle.program_player.proofs.player.play_again.Goals as goal
 
 pub play-requires-send-G : goal.play-requires-send-G

@@ -3,7 +3,7 @@ use Rattle.cm_world.specs.declared.action.Work.{Work}
 use Rattle.cm_world.specs.declared.event.Event.TheVariants.{Begin}
 use Rattle.cm_world.specs.Step.{MayEnd}
 use Rattle.cm_laws.specs.Story.{AddsEntry, world_of}
-use Rattle.cm_laws.proofs.actions.Beginners.{beginners_may_end}
+use Rattle.cm_laws.proofs.lemmas.actions.Beginners.{beginners_may_end}
 use Rattle.realm_tests.proofs.endings.begun.Goals as goal
 
 pub returns-in-Ok-Begun : goal.returns-in-Ok-Begun

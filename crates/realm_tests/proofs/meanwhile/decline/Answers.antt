@@ -2,7 +2,7 @@ use Rattle.std.proofs.Common.{◌≡◌, ℕ, arith}
 use Rattle.cm_world.specs.declared.action.Finish.TheVariants as finish
 use Rattle.cm_world.specs.declared.action.Outcome.TheVariants as outcome
 use Rattle.cm_world.specs.declared.event.Event.TheVariants.{End}
-use Rattle.cm_laws.proofs.actions.Beginners.{still_joined}
+use Rattle.cm_laws.proofs.lemmas.actions.Beginners.{still_joined}
 use Rattle.realm_tests.proofs.meanwhile.decline.Goals as goal
 
 zero_not_one : ◌≡◌ {A = ℕ} 0 1 → ⊥

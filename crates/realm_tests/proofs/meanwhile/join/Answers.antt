@@ -5,7 +5,7 @@ use Rattle.cm_world.specs.declared.action.Outcome.TheVariants as outcome
 use Rattle.cm_world.specs.declared.event.Event.TheVariants.{Begin}
 use Rattle.cm_world.specs.declared.reply.Reply.TheVariants.{Joined}
 use Rattle.cm_laws.specs.Story.{AddsEntry}
-use Rattle.cm_laws.proofs.actions.Beginners.{joiners_are_joined, still_may_end}
+use Rattle.cm_laws.proofs.lemmas.actions.Beginners.{joiners_are_joined, still_may_end}
 use Rattle.realm_tests.proofs.meanwhile.join.Goals as goal
 
 one_not_zero : ◌≡◌ {A = ℕ} 1 0 → ⊥

@@ -2,7 +2,7 @@ use Rattle.std.proofs.Common.{◌≡◌, ℕ, true, refl, inl, subst, arith}
 use Rattle.cm_world.specs.declared.event.Event.TheVariants.{Mark}
 use Rattle.cm_world.specs.declared.reply.Reply.TheVariants.{Marked}
 use Rattle.cm_laws.specs.Story.{world_of, IsLegal, AddsEntry}
-use Rattle.cm_laws.proofs.actions.Beginners.{still_may_end}
+use Rattle.cm_laws.proofs.lemmas.actions.Beginners.{still_may_end}
 use Rattle.realm_tests.proofs.meanwhile.marked.Goals as goal
 
 one_not_zero : ◌≡◌ {A = ℕ} 1 0 → ⊥

@@ -1,6 +1,6 @@
 use Rattle.std.proofs.Common.{◌≤◌, ◌<◌, length, ap, arith}
 use Rattle.cm_cache.specs.Answers.{most}
-use Rattle.cm_cache.proofs.puts.Caching.{put_full, put_joined}
+use Rattle.cm_cache.proofs.lemmas.puts.Caching.{put_full, put_joined}
 use Rattle.cm_cache.proofs.cache.Cache.add.Goals as goal
 
 pub returns-then-count-ge-MOST-clause-ok : goal.returns-then-count-ge-MOST-clause-ok

@@ -1,7 +1,7 @@
 use Rattle.std.proofs.Common.{sym, ◌∙◌, ap, arith}
 use Rattle.cm_cache.specs.AnswersInside.{is_of, kept_at}
-use Rattle.cm_cache.proofs.puts.Placing.{IsAt}
-use Rattle.cm_cache.proofs.puts.Caching.{placed_is, kept_none, kept_some}
+use Rattle.cm_cache.proofs.lemmas.puts.Placing.{IsAt}
+use Rattle.cm_cache.proofs.lemmas.puts.Caching.{placed_is, kept_none, kept_some}
 use Rattle.cm_cache.proofs.cache.Cache.get.Goals as goal
 
 pub index-requires : goal.index-requires

@@ -1,8 +1,8 @@
 use Rattle.std.proofs.Common.{◌≡◌, ℕ, List, ◌∷◌, [], ◌++◌, cond, Some, None, length, sym, ◌∙◌, ap, subst, rules, arith}
 use Rattle.cm_cache.specs.AnswersInside.{answer_of, is_of, kept_at}
 use Rattle.cm_cache.specs.Places.{placed, place_of}
-use Rattle.cm_cache.proofs.puts.Putting.{same_use}
-use Rattle.cm_cache.proofs.puts.Caching.{placed_joined}
+use Rattle.cm_cache.proofs.lemmas.puts.Putting.{same_use}
+use Rattle.cm_cache.proofs.lemmas.puts.Caching.{placed_joined}
 use Rattle.cm_cache.proofs.cache.Cache.join.Goals as goal
 
 pub invariant_of-self-2 : goal.invariant_of-self-2

@@ -1,7 +1,7 @@
 use Rattle.std.proofs.Common.{sym, ◌∙◌, ap, arith}
 use Rattle.cm_cache.specs.AnswersInside.{is_of, kept_at, put_in}
-use Rattle.cm_cache.proofs.puts.Placing.{IsAt}
-use Rattle.cm_cache.proofs.puts.Caching.{on_err_of, placed_is, kept_none, placed_rewritten, put_rewritten}
+use Rattle.cm_cache.proofs.lemmas.puts.Placing.{IsAt}
+use Rattle.cm_cache.proofs.lemmas.puts.Caching.{on_err_of, placed_is, kept_none, placed_rewritten, put_rewritten}
 use Rattle.cm_cache.proofs.cache.Cache.put.Goals as goal
 
 pub index_mut-requires : goal.index_mut-requires

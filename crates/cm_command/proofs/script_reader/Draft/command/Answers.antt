@@ -1,6 +1,6 @@
 use Rattle.std.proofs.Common.{rules}
 use Rattle.cm_command.specs.Scripts.{LineFault}
-use Rattle.cm_command.proofs.scripts.LaneLemmas.{lane_too_many, lane_no_root, lane_fault, lane_takes}
+use Rattle.cm_command.proofs.lemmas.scripts.Lane.{lane_too_many, lane_no_root, lane_fault, lane_takes}
 use Rattle.cm_command.proofs.script_reader.Draft.command.Goals as goal
 
 pub returns-in_default : goal.returns-in_default

@@ -1,6 +1,6 @@
 use Rattle.std.proofs.Common.{rules, refl}
 use Rattle.cm_command.specs.Scripts.{LineFault}
-use Rattle.cm_command.proofs.scripts.ScriptSteps.{opens_takes, manifest_fault}
+use Rattle.cm_command.proofs.lemmas.scripts.ScriptSteps.{opens_takes, manifest_fault}
 use Rattle.cm_command.proofs.script_reader.Draft.open.Goals as goal
 
 pub returns-then-self : goal.returns-then-self

@@ -1,6 +1,6 @@
 use Rattle.std.proofs.Common.{rules, refl, arith}
 use Rattle.cm_command.specs.Scripts.{LineFault}
-use Rattle.cm_command.proofs.scripts.ScriptSteps.{builtin_takes, builtin_fault, builtin_place}
+use Rattle.cm_command.proofs.lemmas.scripts.ScriptSteps.{builtin_takes, builtin_fault, builtin_place}
 use Rattle.cm_command.proofs.script_reader.Draft.provide.Goals as goal
 
 pub returns-then-self : goal.returns-then-self

@@ -1,6 +1,6 @@
 use Rattle.std.proofs.Common.{rules}
 use Rattle.cm_command.specs.Scripts.{LineFault}
-use Rattle.cm_command.proofs.scripts.ScriptSteps.{sync_takes, none_of}
+use Rattle.cm_command.proofs.lemmas.scripts.ScriptSteps.{sync_takes, none_of}
 use Rattle.cm_command.proofs.script_reader.Draft.sync.Goals as goal
 
 pub returns-then-is_none : goal.returns-then-is_none

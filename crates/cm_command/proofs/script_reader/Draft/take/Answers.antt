@@ -1,5 +1,5 @@
 use Rattle.std.proofs.Common.{rules}
-use Rattle.cm_command.proofs.scripts.ScriptSteps.{inside_result, outside_takes}
+use Rattle.cm_command.proofs.lemmas.scripts.ScriptSteps.{inside_result, outside_takes}
 use Rattle.cm_command.proofs.script_reader.Draft.take.Goals as goal
 
 pub returns-in-Some : goal.returns-in-Some

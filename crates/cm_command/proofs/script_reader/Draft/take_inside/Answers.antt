@@ -1,5 +1,5 @@
 use Rattle.std.proofs.Common.{rules}
-use Rattle.cm_command.proofs.scripts.ScriptSteps.{inside_ends, inside_adds}
+use Rattle.cm_command.proofs.lemmas.scripts.ScriptSteps.{inside_ends, inside_adds}
 use Rattle.cm_command.proofs.script_reader.Draft.take_inside.Goals as goal
 
 pub returns-then-is_same : goal.returns-then-is_same

@@ -1,5 +1,5 @@
 use Rattle.std.proofs.Common.{rules, ◌∙◌}
-use Rattle.cm_command.proofs.scripts.Lines.{at_start, exceeds, faulty, further, no_lines}
+use Rattle.cm_command.proofs.lemmas.scripts.Lines.{at_start, exceeds, faulty, further, no_lines}
 use Rattle.cm_command.proofs.script_reader.Draft.take_lines.Goals as goal
 
 pub lines-init : goal.lines-init

@@ -1,6 +1,6 @@
 use Rattle.std.proofs.Common.{rules, refl}
 use Rattle.cm_command.specs.Scripts.{LineFault}
-use Rattle.cm_command.proofs.scripts.ScriptSteps.{root_takes, root_fault, some_of, none_of}
+use Rattle.cm_command.proofs.lemmas.scripts.ScriptSteps.{root_takes, root_fault, some_of, none_of}
 use Rattle.cm_command.proofs.script_reader.Draft.take_root.Goals as goal
 
 pub returns-then-self : goal.returns-then-self

@@ -5,7 +5,7 @@ use Rattle.cm_decl.specs.Same.{same_node}
 use Rattle.cm_decl.specs.GraphInside.{DependsOn}
 use Rattle.cm_deps.specs.Edges.{holds, row}
 use Rattle.cm_deps.specs.Nodes.{IsIncreasing, IsNodeNumber}
-use Rattle.cm_deps.proofs.given.Answering.{first_is_node, last_is_node, no_node, depends_by_number}
+use Rattle.cm_deps.proofs.lemmas.given.Answering.{first_is_node, last_is_node, no_node, depends_by_number}
 use Rattle.cm_deps.proofs.graph.Graph.depends.Goals as goal
 
 pub returns-in_default : goal.returns-in_default

@@ -6,7 +6,7 @@ use Rattle.cm_deps.specs.Implied.{IsOrderedGraph}
 use Rattle.cm_deps.specs.Nodes.{at}
 use Rattle.cm_deps.specs.Shapes.{IsShape, IsLeftRing}
 use Rattle.cm_deps.specs.Closure.{IsClosure}
-use Rattle.cm_deps.proofs.given.Outcomes.{realm_below, realm_some, order_inside, order_made, order_reached, ring_inside, ring_some, cycle_made, ring_reached}
+use Rattle.cm_deps.proofs.lemmas.given.Outcomes.{realm_below, realm_some, order_inside, order_made, order_reached, ring_inside, ring_some, cycle_made, ring_reached}
 use Rattle.cm_deps.proofs.graph.Graph.of.Goals as goal
 
 pub arrange-requires-clause-below : goal.arrange-requires-clause-below

@@ -6,8 +6,8 @@ use Rattle.cm_decl.specs.Graph.{is_strong}
 use Rattle.cm_deps.specs.Nodes.{IsIncreasing, IsNodeNumber}
 use Rattle.cm_deps.specs.Sources.{numbers_at, strong_sources}
 use Rattle.cm_deps.specs.LeadsToLeast.{source_leads}
-use Rattle.cm_deps.proofs.given.Sourcing.{passing_any}
-use Rattle.cm_deps.proofs.given.Answering.{no_node, would_own, would_offer, would_give, would_split, would_none}
+use Rattle.cm_deps.proofs.lemmas.given.Sourcing.{passing_any}
+use Rattle.cm_deps.proofs.lemmas.given.Answering.{no_node, would_own, would_offer, would_give, would_split, would_none}
 use Rattle.cm_deps.proofs.graph.Graph.would_depend.Goals as goal
 
 pub returns-in_default : goal.returns-in_default

@@ -1,6 +1,6 @@
 use Rattle.std.proofs.Common.{◌≡◌, ◌+◌, ◌-◌, drop, subst, arith}
 use Rattle.cm_env.specs.Firsts.{HasFirsts}
-use Rattle.cm_env.proofs.Firsting.{firsts_more}
+use Rattle.cm_env.proofs.lemmas.Firsting.{firsts_more}
 use Rattle.cm_env.proofs.lookup.Firsts.new.Goals as goal
 
 pub loop-left-preserved : goal.loop-left-preserved

@@ -2,7 +2,7 @@ use Rattle.std.proofs.Common.{◌∙◌, List, ℕ, false, refl, ap, sym, subst,
 use mathlib.Core.Bool.{true≢false}
 use Rattle.cm_io.specs.LinesInside.{Reader, TakesPart}
 use Rattle.std.specs.List.{Contains}
-use Rattle.cm_io.proofs.LineLemmas.{passed-filled, passed-kept, takes-line, told-fault, told-last, told-whole, unheld}
+use Rattle.cm_io.proofs.lemmas.Line.{passed-filled, passed-kept, takes-line, told-fault, told-last, told-whole, unheld}
 use Rattle.cm_io.proofs.lines.LineReader.next.Goals as goal
 
 -- the line's end came

@@ -1,7 +1,7 @@
 use Rattle.std.proofs.Common.{◌≡◌, true}
 use Rattle.std.specs.List.{Contains}
 use Rattle.cm_io.specs.Outside.{AsSource}
-use Rattle.cm_io.proofs.LineLemmas.{Passed}
+use Rattle.cm_io.proofs.lemmas.Line.{Passed}
 use Rattle.cm_io.proofs.lines.LineReader.next.Given as goal
 
 abbrev pub invariant-parts : goal.invariant-parts

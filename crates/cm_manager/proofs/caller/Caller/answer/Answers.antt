@@ -3,9 +3,9 @@ use Rattle.cm_manager.specs.Calls.{CallsAction}
 use Rattle.cm_manager.specs.Questions.{AnswersTo, Requested}
 use Rattle.cm_manager.specs.Runs.{RunsAction}
 use Rattle.cm_manager.specs.Streams.{Streams}
-use Rattle.cm_manager.proofs.calling.Calling.{single_is, single_answers}
-use Rattle.cm_manager.proofs.callers.CallerRuns.{runs_as, turns_run}
-use Rattle.cm_manager.proofs.onward.Streaming.{streamed_helps}
+use Rattle.cm_manager.proofs.lemmas.calling.Calling.{single_is, single_answers}
+use Rattle.cm_manager.proofs.lemmas.callers.CallerRuns.{runs_as, turns_run}
+use Rattle.cm_manager.proofs.lemmas.onward.Streaming.{streamed_helps}
 use Rattle.cm_manager.proofs.caller.Caller.answer.Goals as goal
 
 pub returns-in-Begin : goal.returns-in-Begin

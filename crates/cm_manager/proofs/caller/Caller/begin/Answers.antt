@@ -1,6 +1,6 @@
 use Rattle.std.proofs.Common.{sym}
 use Rattle.std.proofs.lemmas.Result.{err_from_is_err_and}
-use Rattle.cm_manager.proofs.callers.CallerRuns.{work_may, join_may, begun_runs, joined_runs, needs_runs, quiet_runs, cut_runs}
+use Rattle.cm_manager.proofs.lemmas.callers.CallerRuns.{work_may, join_may, begun_runs, joined_runs, needs_runs, quiet_runs, cut_runs}
 use Rattle.cm_manager.proofs.caller.Caller.begin.Goals as goal
 
 pub end_turn-outcome-requires : goal.end_turn-outcome-requires

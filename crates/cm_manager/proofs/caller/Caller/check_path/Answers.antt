@@ -1,4 +1,4 @@
-use Rattle.cm_manager.proofs.callers.CallerAnswers.{path_line}
+use Rattle.cm_manager.proofs.lemmas.callers.CallerAnswers.{path_line}
 use Rattle.cm_manager.proofs.caller.Caller.check_path.Goals as goal
 
 pub returns : goal.returns

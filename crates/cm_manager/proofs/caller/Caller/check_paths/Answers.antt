@@ -1,9 +1,9 @@
 use Rattle.std.proofs.Common.{Ok}
 use Rattle.std.proofs.lemmas.Result.{err_from_is_err_and}
 use Rattle.cm_manager.specs.Doctor.{OfPath}
-use Rattle.cm_manager.proofs.callers.CallerRuns.{known_run}
-use Rattle.cm_manager.proofs.callers.CallerAnswers.{gather_cut, gather_done, gathered_on}
-use Rattle.cm_manager.proofs.checks.DoctorLines.{here_next, none_left}
+use Rattle.cm_manager.proofs.lemmas.callers.CallerRuns.{known_run}
+use Rattle.cm_manager.proofs.lemmas.callers.CallerAnswers.{gather_cut, gather_done, gathered_on}
+use Rattle.cm_manager.proofs.lemmas.checks.DoctorLines.{here_next, none_left}
 use Rattle.cm_manager.proofs.caller.Caller.check_paths.Goals as goal
 
 pub loop-path-init : goal.loop-path-init

@@ -3,7 +3,7 @@ use Rattle.cm_manager.specs.Asking.{frame_of}
 use Rattle.cm_manager.specs.Contract.{IsSamePass}
 use Rattle.cm_manager.specs.Doctor.{GathersEach, OfPath}
 use Rattle.cm_manager.specs.DoctorInside.{Gathering}
-use Rattle.cm_manager.proofs.callers.CallerRuns.{CallerLoop}
+use Rattle.cm_manager.proofs.lemmas.callers.CallerRuns.{CallerLoop}
 use Rattle.cm_manager.proofs.caller.Caller.check_paths.Given as goal
 
 -- whatever the paths that are left come to is what all of them come to

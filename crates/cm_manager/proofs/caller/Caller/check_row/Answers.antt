@@ -1,5 +1,5 @@
-use Rattle.cm_answers.proofs.LineLemmas.{adds_or_memory}
-use Rattle.cm_manager.proofs.callers.CallerAnswers.{row_lines, unresolved_row}
+use Rattle.cm_answers.proofs.lemmas.Line.{adds_or_memory}
+use Rattle.cm_manager.proofs.lemmas.callers.CallerAnswers.{row_lines, unresolved_row}
 use Rattle.cm_manager.proofs.caller.Caller.check_row.Goals as goal
 
 pub returns-then-not-row : goal.returns-then-not-row

@@ -4,9 +4,9 @@ use Rattle.cm_world.specs.declared.answer.Checked.{Checked}
 use Rattle.cm_manager.specs.Caller.{CallerRuns}
 use Rattle.cm_manager.specs.Doctor.{GathersEach, OfRow}
 use Rattle.cm_manager.specs.DoctorInside.{Gathering}
-use Rattle.cm_manager.proofs.callers.CallerRuns.{known_run}
-use Rattle.cm_manager.proofs.callers.CallerAnswers.{gather_cut, gather_done, gathered_on}
-use Rattle.cm_manager.proofs.checks.DoctorLines.{here_next, none_left}
+use Rattle.cm_manager.proofs.lemmas.callers.CallerRuns.{known_run}
+use Rattle.cm_manager.proofs.lemmas.callers.CallerAnswers.{gather_cut, gather_done, gathered_on}
+use Rattle.cm_manager.proofs.lemmas.checks.DoctorLines.{here_next, none_left}
 use Rattle.cm_manager.proofs.caller.Caller.check_rows.Goals as goal
 
 pub loop-row-init : goal.loop-row-init

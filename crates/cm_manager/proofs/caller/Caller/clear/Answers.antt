@@ -1,9 +1,9 @@
 use Rattle.std.proofs.Common.{Some, None, get_or}
 use Rattle.std.proofs.lemmas.List.{get_or_default}
-use Rattle.cm_manager.proofs.callers.CallerRuns.{known_run}
-use Rattle.cm_manager.proofs.callers.CallerStops.{clear_cut, clear_done, cleared_on}
-use Rattle.cm_manager.proofs.checks.DoctorLines.{here_next, none_left}
-use Rattle.cm_manager.proofs.shutdowns.Sweepings.{all_marked, item_marked}
+use Rattle.cm_manager.proofs.lemmas.callers.CallerRuns.{known_run}
+use Rattle.cm_manager.proofs.lemmas.callers.CallerStops.{clear_cut, clear_done, cleared_on}
+use Rattle.cm_manager.proofs.lemmas.checks.DoctorLines.{here_next, none_left}
+use Rattle.cm_manager.proofs.lemmas.shutdowns.Sweepings.{all_marked, item_marked}
 use Rattle.cm_manager.proofs.caller.Caller.clear.Goals as goal
 
 pub loop-row-init : goal.loop-row-init

@@ -5,7 +5,7 @@ use Rattle.cm_manager.specs.Turns.{world_after}
 use Rattle.cm_manager.specs.Asking.{frame_of}
 use Rattle.cm_manager.specs.Contract.{IsSamePass}
 use Rattle.cm_manager.specs.Sweeps.{Clears}
-use Rattle.cm_manager.proofs.callers.CallerRuns.{CallerLoop}
+use Rattle.cm_manager.proofs.lemmas.callers.CallerRuns.{CallerLoop}
 use Rattle.cm_manager.proofs.caller.Caller.clear.Given as goal
 
 -- whatever the rows that are left come to is what all of them come to, and all of them are marked

@@ -1,4 +1,4 @@
-use Rattle.cm_manager.proofs.callers.CallerStops.{destroyed_runs, unshut_runs}
+use Rattle.cm_manager.proofs.lemmas.callers.CallerStops.{destroyed_runs, unshut_runs}
 use Rattle.cm_manager.proofs.caller.Caller.destroy_row.Goals as goal
 
 pub returns-in-Some : goal.returns-in-Some

@@ -1,6 +1,6 @@
 use Rattle.std.proofs.lemmas.Result.{err_from_is_err_and}
-use Rattle.cm_manager.proofs.callers.CallerRuns.{known_run}
-use Rattle.cm_manager.proofs.callers.CallerAnswers.{doctor_runs, survey_refused}
+use Rattle.cm_manager.proofs.lemmas.callers.CallerRuns.{known_run}
+use Rattle.cm_manager.proofs.lemmas.callers.CallerAnswers.{doctor_runs, survey_refused}
 use Rattle.cm_manager.proofs.caller.Caller.doctor_at.Goals as goal
 
 pub check_rows-requires : goal.check_rows-requires

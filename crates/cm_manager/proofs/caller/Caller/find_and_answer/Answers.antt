@@ -1,8 +1,8 @@
 use Rattle.std.proofs.Common.{refl}
 use Rattle.std.proofs.lemmas.Result.{err_from_is_err_and}
 use Rattle.cm_manager.specs.Questions.{AnswersTo}
-use Rattle.cm_manager.proofs.calling.Calling.{request_called}
-use Rattle.cm_manager.proofs.callers.CallerRuns.{performs_found, performs_missed}
+use Rattle.cm_manager.proofs.lemmas.calling.Calling.{request_called}
+use Rattle.cm_manager.proofs.lemmas.callers.CallerRuns.{performs_found, performs_missed}
 use Rattle.cm_manager.proofs.caller.Caller.find_and_answer.Goals as goal
 
 pub returns : goal.returns

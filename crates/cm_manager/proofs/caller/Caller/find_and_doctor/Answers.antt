@@ -2,7 +2,7 @@ use Rattle.std.proofs.Common.{refl}
 use Rattle.std.proofs.lemmas.Result.{err_from_is_err_and}
 use Rattle.cm_command.specs.declared.command.Command.TheVariants as command
 use Rattle.cm_manager.specs.Doctor.{Doctors}
-use Rattle.cm_manager.proofs.callers.CallerRuns.{performs_found, performs_missed}
+use Rattle.cm_manager.proofs.lemmas.callers.CallerRuns.{performs_found, performs_missed}
 use Rattle.cm_manager.proofs.caller.Caller.find_and_doctor.Goals as goal
 
 pub returns : goal.returns

@@ -1,6 +1,6 @@
 use Rattle.cm_world.specs.declared.event.Event.TheVariants as event
 use Rattle.cm_manager.specs.Runs.{RetriesEvent}
-use Rattle.cm_manager.proofs.callers.CallerRuns.{runs_as}
+use Rattle.cm_manager.proofs.lemmas.callers.CallerRuns.{runs_as}
 use Rattle.cm_manager.proofs.caller.Caller.find_named.Goals as goal
 
 pub returns : goal.returns

@@ -2,7 +2,7 @@ use Rattle.std.proofs.Common.{false}
 use Rattle.cm_world.specs.declared.answer.Answer.TheVariants as answer
 use Rattle.cm_manager.specs.Calls.{ComesToAnswer}
 use Rattle.cm_manager.specs.Shutdowns.{Destroys, Shuts}
-use Rattle.cm_manager.proofs.callers.CallerRuns.{runs_as}
+use Rattle.cm_manager.proofs.lemmas.callers.CallerRuns.{runs_as}
 use Rattle.cm_manager.proofs.caller.Caller.mark_row.Goals as goal
 
 pub returns-then-doom : goal.returns-then-doom

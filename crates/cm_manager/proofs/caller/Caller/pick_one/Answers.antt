@@ -1,6 +1,6 @@
 use Rattle.std.proofs.Common.{sym}
-use Rattle.cm_manager.proofs.callers.CallerStops.{pick_cut, pick_done, pick_may, pick_off, pick_on}
-use Rattle.cm_manager.proofs.shutdowns.ShuttingDown.{no_other_pick}
+use Rattle.cm_manager.proofs.lemmas.callers.CallerStops.{pick_cut, pick_done, pick_may, pick_off, pick_on}
+use Rattle.cm_manager.proofs.lemmas.shutdowns.ShuttingDown.{no_other_pick}
 use Rattle.cm_manager.proofs.caller.Caller.pick_one.Goals as goal
 
 pub ask-requires : goal.ask-requires

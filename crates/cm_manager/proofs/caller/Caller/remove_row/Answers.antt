@@ -1,6 +1,6 @@
 use Rattle.std.proofs.Common.{true}
-use Rattle.cm_manager.proofs.callers.CallerStops.{removed_runs, unstopped_runs}
-use Rattle.cm_manager.proofs.shutdowns.ShuttingDown.{marked_next}
+use Rattle.cm_manager.proofs.lemmas.callers.CallerStops.{removed_runs, unstopped_runs}
+use Rattle.cm_manager.proofs.lemmas.shutdowns.ShuttingDown.{marked_next}
 use Rattle.cm_manager.proofs.caller.Caller.remove_row.Goals as goal
 
 pub purge-requires : goal.purge-requires

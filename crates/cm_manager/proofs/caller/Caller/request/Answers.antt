@@ -3,8 +3,8 @@ use Rattle.cm_steps.specs.Requests.{event_for}
 use Rattle.cm_manager.specs.Questions.{FollowsBy}
 use Rattle.cm_manager.specs.Runs.{StartsSingleRun}
 use Rattle.cm_manager.specs.Sweeps.{Sweeps}
-use Rattle.cm_manager.proofs.calling.Followings.{no_follow, start_follows, sweep_follows}
-use Rattle.cm_manager.proofs.callers.CallerAnswers.{nothing_more, something_more}
+use Rattle.cm_manager.proofs.lemmas.calling.Followings.{no_follow, start_follows, sweep_follows}
+use Rattle.cm_manager.proofs.lemmas.callers.CallerAnswers.{nothing_more, something_more}
 use Rattle.cm_manager.proofs.caller.Caller.request.Goals as goal
 
 pub returns-in-Nothing : goal.returns-in-Nothing

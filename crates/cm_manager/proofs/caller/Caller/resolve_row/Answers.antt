@@ -1,8 +1,8 @@
 use Rattle.std.proofs.Common.{refl}
 use Rattle.std.proofs.lemmas.Result.{err_from_is_err_and}
 use Rattle.cm_manager.specs.Runs.{RunsAction}
-use Rattle.cm_manager.proofs.starts.Launches.{ended_acts, joined_acts, unfollowed, not_a_start, not_a_stop}
-use Rattle.cm_manager.proofs.callers.CallerRuns.{runs_as}
+use Rattle.cm_manager.proofs.lemmas.starts.Launches.{ended_acts, joined_acts, unfollowed, not_a_start, not_a_stop}
+use Rattle.cm_manager.proofs.lemmas.callers.CallerRuns.{runs_as}
 use Rattle.cm_manager.proofs.caller.Caller.resolve_row.Goals as goal
 
 pub returns-in-Ended : goal.returns-in-Ended

@@ -1,6 +1,6 @@
 use Rattle.std.proofs.Common.{sym, ◌∙◌}
-use Rattle.cm_manager.proofs.callers.CallerStops.{marked_runs, unmarked_runs}
-use Rattle.cm_manager.proofs.shutdowns.ShuttingDown.{marked_at, marked_next, none_or}
+use Rattle.cm_manager.proofs.lemmas.callers.CallerStops.{marked_runs, unmarked_runs}
+use Rattle.cm_manager.proofs.lemmas.shutdowns.ShuttingDown.{marked_at, marked_next, none_or}
 use Rattle.cm_manager.proofs.caller.Caller.shut_row.Goals as goal
 
 pub stop_all-requires : goal.stop_all-requires

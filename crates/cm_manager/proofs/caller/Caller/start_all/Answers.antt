@@ -1,7 +1,7 @@
 use Rattle.std.proofs.Common.{◌∙◌, sym}
-use Rattle.cm_manager.proofs.callers.CallerRuns.{known_run}
-use Rattle.cm_manager.proofs.callers.CallerStarts.{all_started, cut_among, wanting_among, settled_on, children_on}
-use Rattle.cm_manager.proofs.starts.Starts.{empty_by}
+use Rattle.cm_manager.proofs.lemmas.callers.CallerRuns.{known_run}
+use Rattle.cm_manager.proofs.lemmas.callers.CallerStarts.{all_started, cut_among, wanting_among, settled_on, children_on}
+use Rattle.cm_manager.proofs.lemmas.starts.Starts.{empty_by}
 use Rattle.cm_manager.proofs.caller.Caller.start_all.Goals as goal
 
 pub loop-init : goal.loop-init

@@ -1,7 +1,7 @@
 use Rattle.cm_manager.specs.Asking.{frame_of}
 use Rattle.cm_manager.specs.Contract.{IsSamePass}
 use Rattle.cm_manager.specs.Runs.{StartsEager}
-use Rattle.cm_manager.proofs.callers.CallerRuns.{CallerLoop}
+use Rattle.cm_manager.proofs.lemmas.callers.CallerRuns.{CallerLoop}
 use Rattle.cm_manager.proofs.caller.Caller.start_all.Given as goal
 
 -- whatever the rows that are left come to is what all of them come to

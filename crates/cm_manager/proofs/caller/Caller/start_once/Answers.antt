@@ -1,4 +1,4 @@
-use Rattle.cm_manager.proofs.callers.CallerStops.{once_not, once_runs}
+use Rattle.cm_manager.proofs.lemmas.callers.CallerStops.{once_not, once_runs}
 use Rattle.cm_manager.proofs.caller.Caller.start_once.Goals as goal
 
 pub returns-then-not-look_once : goal.returns-then-not-look_once

@@ -1,6 +1,6 @@
 use Rattle.cm_manager.specs.declared.began.Launch.TheVariants as launch
-use Rattle.cm_manager.proofs.callers.CallerRuns.{begun_start, begun_need}
-use Rattle.cm_manager.proofs.callers.CallerStarts.{failed_first, resolved_first}
+use Rattle.cm_manager.proofs.lemmas.callers.CallerRuns.{begun_start, begun_need}
+use Rattle.cm_manager.proofs.lemmas.callers.CallerStarts.{failed_first, resolved_first}
 use Rattle.cm_manager.proofs.caller.Caller.start_one.Goals as goal
 
 pub loop-init : goal.loop-init

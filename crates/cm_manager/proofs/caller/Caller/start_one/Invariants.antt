@@ -1,5 +1,5 @@
 use Rattle.cm_manager.specs.Acting.{StartsBy}
-use Rattle.cm_manager.proofs.callers.CallerRuns.{CallerLoop}
+use Rattle.cm_manager.proofs.lemmas.callers.CallerRuns.{CallerLoop}
 use Rattle.cm_manager.proofs.caller.Caller.start_one.Given as goal
 
 -- whatever the start comes to from here is what the whole comes to

@@ -1,6 +1,6 @@
 use Rattle.std.proofs.Common.{Some, None}
-use Rattle.cm_manager.proofs.callers.CallerRuns.{known_run}
-use Rattle.cm_manager.proofs.callers.CallerStarts.{whole_started, wanting_children, settled_start}
+use Rattle.cm_manager.proofs.lemmas.callers.CallerRuns.{known_run}
+use Rattle.cm_manager.proofs.lemmas.callers.CallerStarts.{whole_started, wanting_children, settled_start}
 use Rattle.cm_manager.proofs.caller.Caller.start_row.Goals as goal
 
 pub returns-in-Settled : goal.returns-in-Settled

@@ -1,6 +1,6 @@
 use Rattle.std.proofs.Common.{Some, None}
-use Rattle.cm_manager.proofs.callers.CallerStops.{stops_cut, stops_done, stops_on}
-use Rattle.cm_manager.proofs.shutdowns.ShuttingDown.{done_over, leaving_next}
+use Rattle.cm_manager.proofs.lemmas.callers.CallerStops.{stops_cut, stops_done, stops_on}
+use Rattle.cm_manager.proofs.lemmas.shutdowns.ShuttingDown.{done_over, leaving_next}
 use Rattle.cm_manager.proofs.caller.Caller.stop_all.Goals as goal
 
 pub loop-init : goal.loop-init

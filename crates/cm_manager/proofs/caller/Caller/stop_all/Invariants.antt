@@ -2,7 +2,7 @@ use Rattle.cm_laws.specs.Shutdowns.{IsLeaving}
 use Rattle.cm_manager.specs.Turns.{world_after}
 use Rattle.cm_manager.specs.Asking.{frame_of}
 use Rattle.cm_manager.specs.Sweeps.{Stops}
-use Rattle.cm_manager.proofs.callers.CallerRuns.{CallerLoop}
+use Rattle.cm_manager.proofs.lemmas.callers.CallerRuns.{CallerLoop}
 use Rattle.cm_manager.proofs.caller.Caller.stop_all.Given as goal
 
 -- whatever the picks that are left come to is what all of them come to

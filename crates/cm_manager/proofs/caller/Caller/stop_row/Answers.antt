@@ -1,9 +1,9 @@
 use Rattle.std.proofs.Common.{None, Some}
 use Rattle.std.proofs.lemmas.Result.{err_from_is_err_and}
 use Rattle.cm_manager.specs.Runs.{RunsAction}
-use Rattle.cm_manager.proofs.callers.CallerRuns.{runs_as}
-use Rattle.cm_manager.proofs.callers.CallerStops.{stop_runs}
-use Rattle.cm_manager.proofs.starts.Launches.{joined_acts}
+use Rattle.cm_manager.proofs.lemmas.callers.CallerRuns.{runs_as}
+use Rattle.cm_manager.proofs.lemmas.callers.CallerStops.{stop_runs}
+use Rattle.cm_manager.proofs.lemmas.starts.Launches.{joined_acts}
 use Rattle.cm_manager.proofs.caller.Caller.stop_row.Goals as goal
 
 -- it was stopped here, and what went with it is removed

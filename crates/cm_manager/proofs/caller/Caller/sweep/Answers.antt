@@ -1,6 +1,6 @@
-use Rattle.cm_manager.proofs.callers.CallerStops.{swept_runs, unswept_runs}
-use Rattle.cm_manager.proofs.onward.Onward.{known_next}
-use Rattle.cm_manager.proofs.shutdowns.Sweepings.{reap_marks, reaps_only}
+use Rattle.cm_manager.proofs.lemmas.callers.CallerStops.{swept_runs, unswept_runs}
+use Rattle.cm_manager.proofs.lemmas.onward.Onward.{known_next}
+use Rattle.cm_manager.proofs.lemmas.shutdowns.Sweepings.{reap_marks, reaps_only}
 use Rattle.cm_manager.proofs.caller.Caller.sweep.Goals as goal
 
 pub clear-requires-clause-known : goal.clear-requires-clause-known

@@ -5,7 +5,7 @@ use Rattle.cm_world.specs.declared.reply.Reply.{Reply}
 use Rattle.cm_steps.specs.Requests.{event_of}
 use Rattle.cm_manager.specs.Runs.{RunsAction, RetriesEvent}
 use Rattle.cm_manager.specs.Turns.{AddsWithinRoom}
-use Rattle.cm_manager.proofs.callers.CallerRuns.{asked_runs, cut_event, runs_as, runs_then, loop_on}
+use Rattle.cm_manager.proofs.lemmas.callers.CallerRuns.{asked_runs, cut_event, runs_as, runs_then, loop_on}
 use Rattle.cm_manager.proofs.caller.Caller.try_event.Goals as goal
 
 pub loop-init : goal.loop-init

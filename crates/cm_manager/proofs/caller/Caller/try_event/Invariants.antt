@@ -1,6 +1,6 @@
 use Rattle.cm_steps.specs.Requests.{event_of}
 use Rattle.cm_manager.specs.Runs.{RetriesEvent}
-use Rattle.cm_manager.proofs.callers.CallerRuns.{CallerLoop}
+use Rattle.cm_manager.proofs.lemmas.callers.CallerRuns.{CallerLoop}
 use Rattle.cm_manager.proofs.caller.Caller.try_event.Given as goal
 
 -- whatever the event comes to from here is what the whole comes to

@@ -1,4 +1,4 @@
-use Rattle.cm_manager.proofs.calling.Calling.{single_asked, single_plain}
+use Rattle.cm_manager.proofs.lemmas.calling.Calling.{single_asked, single_plain}
 use Rattle.cm_manager.proofs.caller.Caller.try_request.Goals as goal
 
 pub try_event-requires-clause-asked : goal.try_event-requires-clause-asked

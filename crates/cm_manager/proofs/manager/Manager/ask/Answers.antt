@@ -1,6 +1,6 @@
 use Rattle.std.proofs.Common.{Ok, ◌∙◌}
-use Rattle.cm_manager.proofs.left.Due.{due_next}
-use Rattle.cm_manager.proofs.onward.Turning.{waits_none, waits_same, waits_turned, waits_asked}
+use Rattle.cm_manager.proofs.lemmas.left.Due.{due_next}
+use Rattle.cm_manager.proofs.lemmas.onward.Turning.{waits_none, waits_same, waits_turned, waits_asked}
 use Rattle.cm_manager.proofs.manager.Manager.ask.Goals as goal
 
 pub loop-init : goal.loop-init

@@ -1,7 +1,7 @@
 use Rattle.cm_manager.specs.Turns.{world_after}
 use Rattle.cm_manager.specs.Asking.{frame_of, IsDue}
 use Rattle.cm_steps.specs.Requests.{event_of}
-use Rattle.cm_manager.proofs.onward.Turning.{Waits}
+use Rattle.cm_manager.proofs.lemmas.onward.Turning.{Waits}
 use Rattle.cm_manager.proofs.manager.Manager.ask.Given as goal
 
 abbrev pub invariant-loop : goal.invariant-loop

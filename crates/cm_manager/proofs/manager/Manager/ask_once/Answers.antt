@@ -1,5 +1,5 @@
-use Rattle.cm_manager.proofs.left.Due.{open_at}
-use Rattle.cm_manager.proofs.onward.Turning.{entered_by, may_leave, took_by, same_pass, turned_as, busy_by, steps_on}
+use Rattle.cm_manager.proofs.lemmas.left.Due.{open_at}
+use Rattle.cm_manager.proofs.lemmas.onward.Turning.{entered_by, may_leave, took_by, same_pass, turned_as, busy_by, steps_on}
 use Rattle.cm_manager.proofs.manager.Manager.ask_once.Goals as goal
 
 pub step-went-requires : goal.step-went-requires

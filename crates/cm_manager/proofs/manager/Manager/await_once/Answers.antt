@@ -1,7 +1,7 @@
 use Rattle.std.proofs.Common.{ℕ, subst, sym}
 use Rattle.cm_laws.specs.Story.{world_of}
 use Rattle.cm_laws.specs.Laws.{IsJoined}
-use Rattle.cm_manager.proofs.onward.Turning.{entered_by, may_await, may_leave, took_by, same_pass, awaits_on, awaited_as, unended_by}
+use Rattle.cm_manager.proofs.lemmas.onward.Turning.{entered_by, may_await, may_leave, took_by, same_pass, awaits_on, awaited_as, unended_by}
 use Rattle.cm_manager.proofs.manager.Manager.await_once.Goals as goal
 
 pub outcome_at-outcome-requires : goal.outcome_at-outcome-requires

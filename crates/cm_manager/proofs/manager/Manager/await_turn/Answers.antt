@@ -1,6 +1,6 @@
 use Rattle.std.proofs.Common.{◌∙◌}
 use Rattle.cm_world.specs.declared.event.Event.TheVariants as event
-use Rattle.cm_manager.proofs.onward.Turning.{waits_none, waits_more, waits_same, waits_told, waits_joined}
+use Rattle.cm_manager.proofs.lemmas.onward.Turning.{waits_none, waits_more, waits_same, waits_told, waits_joined}
 use Rattle.cm_manager.proofs.manager.Manager.await_turn.Goals as goal
 
 pub loop-init : goal.loop-init

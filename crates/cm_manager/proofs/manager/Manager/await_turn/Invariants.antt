@@ -1,4 +1,4 @@
-use Rattle.cm_manager.proofs.onward.Turning.{Waits}
+use Rattle.cm_manager.proofs.lemmas.onward.Turning.{Waits}
 use Rattle.cm_manager.proofs.manager.Manager.await_turn.Given as goal
 
 abbrev pub invariant-loop : goal.invariant-loop

@@ -2,7 +2,7 @@ use Rattle.std.proofs.Common.{List, subst, sym}
 use Rattle.cm_world.specs.declared.reply.Entry.{Entry}
 use Rattle.cm_manager.specs.Closed.{HasEnds}
 use Rattle.cm_manager.specs.Managers.{BearsPassesOut}
-use Rattle.cm_manager.proofs.left.Closings.{book_of}
+use Rattle.cm_manager.proofs.lemmas.left.Closings.{book_of}
 use Rattle.cm_manager.proofs.manager.Manager.close.Goals as goal
 
 pub returns : goal.returns

@@ -1,6 +1,6 @@
 use Rattle.std.proofs.Common.{refl}
-use Rattle.cm_manager.proofs.left.Closings.{closes_by, known_frames}
-use Rattle.cm_manager.proofs.left.HavingEnds.{history_has_ends}
+use Rattle.cm_manager.proofs.lemmas.left.Closings.{closes_by, known_frames}
+use Rattle.cm_manager.proofs.lemmas.left.HavingEnds.{history_has_ends}
 use Rattle.cm_manager.proofs.manager.Manager.close_realm.Goals as goal
 
 pub returns : goal.returns

@@ -1,6 +1,6 @@
 use Rattle.cm_command.specs.declared.command.Command.TheVariants as command
 use Rattle.cm_manager.specs.Laws.{IsRemoved}
-use Rattle.cm_manager.proofs.shutdowns.Answering.{leaves_if}
+use Rattle.cm_manager.proofs.lemmas.shutdowns.Answering.{leaves_if}
 use Rattle.cm_manager.proofs.manager.Manager.destroy_child.Goals as goal
 
 pub returns : goal.returns

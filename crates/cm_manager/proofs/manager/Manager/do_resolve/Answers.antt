@@ -1,4 +1,4 @@
-use Rattle.cm_manager.proofs.calling.Doings.{fits_bad_url, did_nothing, did_bad_url, refused_url}
+use Rattle.cm_manager.proofs.lemmas.calling.Doings.{fits_bad_url, did_nothing, did_bad_url, refused_url}
 use Rattle.cm_manager.proofs.manager.Manager.do_resolve.Goals as goal
 
 pub returns-in-Memory-clause-did : goal.returns-in-Memory-clause-did

@@ -2,7 +2,7 @@ use Rattle.std.proofs.Common.{ℕ, subst, sym}
 use Rattle.cm_world.specs.Step.{MayEnd}
 use Rattle.cm_laws.specs.Story.{world_of}
 use Rattle.cm_steps.specs.Ends.{finish_of}
-use Rattle.cm_manager.proofs.onward.Turning.{entered_by, may_end, may_leave, took_by, same_pass, tells_on, told_as}
+use Rattle.cm_manager.proofs.lemmas.onward.Turning.{entered_by, may_end, may_leave, took_by, same_pass, tells_on, told_as}
 use Rattle.cm_manager.proofs.manager.Manager.end_turn.Goals as goal
 
 pub finish-outcome-requires : goal.finish-outcome-requires

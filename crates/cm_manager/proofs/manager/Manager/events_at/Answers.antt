@@ -1,7 +1,7 @@
 use Rattle.std.proofs.Common.{subst, sym}
 use Rattle.cm_manager.specs.Streaming.{StreamedBy}
-use Rattle.cm_manager.proofs.onward.Turning.{may_leave, took_by, same_pass}
-use Rattle.cm_manager.proofs.onward.Streaming.{streams_on, streamed_as}
+use Rattle.cm_manager.proofs.lemmas.onward.Turning.{may_leave, took_by, same_pass}
+use Rattle.cm_manager.proofs.lemmas.onward.Streaming.{streams_on, streamed_as}
 use Rattle.cm_manager.proofs.manager.Manager.events_at.Goals as goal
 
 pub leave-requires-clause-entries : goal.leave-requires-clause-entries

@@ -1,7 +1,7 @@
 use Rattle.std.proofs.Common.{List, ℕ, subst}
 use Rattle.cm_steps.specs.Ends.{finish_of}
 use Rattle.cm_manager.specs.Doing.{EndsBy}
-use Rattle.cm_manager.proofs.calling.Doings.{did_nothing, did_fetch, did_absent, did_want, did_fail, fetched_for}
+use Rattle.cm_manager.proofs.lemmas.calling.Doings.{did_nothing, did_fetch, did_absent, did_want, did_fail, fetched_for}
 use Rattle.cm_manager.proofs.manager.Manager.fetch_manifest.Goals as goal
 
 pub returns-in_default-clause-did : goal.returns-in_default-clause-did

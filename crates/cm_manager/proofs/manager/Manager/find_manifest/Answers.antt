@@ -1,7 +1,7 @@
 use Rattle.std.proofs.Common.{rules, List, ℕ, subst}
 use Rattle.cm_steps.specs.Ends.{finish_of}
 use Rattle.cm_manager.specs.Doing.{EndsBy}
-use Rattle.cm_manager.proofs.calling.Doings.{did_kept}
+use Rattle.cm_manager.proofs.lemmas.calling.Doings.{did_kept}
 use Rattle.cm_manager.proofs.manager.Manager.find_manifest.Goals as goal
 
 pub returns-in-Some-clause-did : goal.returns-in-Some-clause-did

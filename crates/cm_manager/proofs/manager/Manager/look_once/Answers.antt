@@ -1,5 +1,5 @@
 use Rattle.std.proofs.Common.{refl}
-use Rattle.cm_manager.proofs.onward.Turning.{took_by, nothing_by, looked_by, same_pass, same_on}
+use Rattle.cm_manager.proofs.lemmas.onward.Turning.{took_by, nothing_by, looked_by, same_pass, same_on}
 use Rattle.cm_manager.proofs.manager.Manager.look_once.Goals as goal
 
 pub returns : goal.returns

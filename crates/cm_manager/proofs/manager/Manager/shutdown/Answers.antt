@@ -1,6 +1,6 @@
 use Rattle.cm_laws.specs.ShutdownsInside.{IsShutBelow}
 use Rattle.cm_command.specs.declared.command.Command.TheVariants as command
-use Rattle.cm_manager.proofs.shutdowns.Answering.{leaves_if}
+use Rattle.cm_manager.proofs.lemmas.shutdowns.Answering.{leaves_if}
 use Rattle.cm_manager.proofs.manager.Manager.shutdown.Goals as goal
 
 pub returns : goal.returns

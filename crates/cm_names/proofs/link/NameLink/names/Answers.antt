@@ -1,6 +1,6 @@
 use Rattle.std.proofs.Common.{◌++◌, map, reverse, sym, ap, ◌∙◌}
 use Rattle.cm_names.specs.Chains.{names_of}
-use Rattle.cm_names.proofs.Ends.{map-reverse}
+use Rattle.cm_names.proofs.lemmas.Ends.{map-reverse}
 use Rattle.cm_names.proofs.link.NameLink.names.Goals as goal
 
 pub returns : goal.returns

@@ -3,8 +3,8 @@ use Rattle.std.proofs.lemmas.List.{get_or-map, length-map}
 use Rattle.std.proofs.lemmas.List.Elements.{All-more}
 use Rattle.cm_names.specs.Child.{child_text}
 use Rattle.cm_names.specs.Moniker.{IsChildName}
-use Rattle.cm_names.proofs.sets.JoinLemmas.{joined_more}
-use Rattle.cm_names.proofs.texts.MonikerParts.{written_whole, names_whole}
+use Rattle.cm_names.proofs.lemmas.sets.Join.{joined_more}
+use Rattle.cm_names.proofs.lemmas.texts.MonikerParts.{written_whole, names_whole}
 use Rattle.cm_names.proofs.moniker.Moniker.write.Goals as goal
 use Rattle.cm_names.proofs.moniker.Moniker.write.Goals.{then-i-gt0+in_ok-push_str, else-i-gt0}
 

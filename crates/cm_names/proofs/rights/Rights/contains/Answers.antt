@@ -1,7 +1,7 @@
 use Rattle.std.proofs.Common.{◌∙◌, ap}
 use Rattle.cm_names.specs.Rights as spec
 use Rattle.cm_names.specs.RightBits.{set_of_bits}
-use Rattle.cm_names.proofs.sets.BitLemmas.{contains_bits}
+use Rattle.cm_names.proofs.lemmas.sets.Bit.{contains_bits}
 use Rattle.cm_names.proofs.rights.Rights.contains.Goals as goal
 
 pub returns : goal.returns

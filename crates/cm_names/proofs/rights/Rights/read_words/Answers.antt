@@ -1,5 +1,5 @@
 use Rattle.std.proofs.Common.{rules, ◌∙◌, arith}
-use Rattle.cm_names.proofs.sets.RightsLemmas.{added, all_words, union_of_words}
+use Rattle.cm_names.proofs.lemmas.sets.Rights.{added, all_words, union_of_words}
 use Rattle.cm_names.proofs.rights.Rights.read_words.Goals as goal
 
 pub loop-i-preserved : goal.loop-i-preserved

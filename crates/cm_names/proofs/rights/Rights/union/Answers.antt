@@ -1,7 +1,7 @@
 use Rattle.std.proofs.Common.{◌∙◌, ap}
 use Rattle.cm_names.specs.Rights as spec
 use Rattle.cm_names.specs.RightBits.{set_of_bits}
-use Rattle.cm_names.proofs.sets.BitLemmas.{or_below, set_of_bits-or}
+use Rattle.cm_names.proofs.lemmas.sets.Bit.{or_below, set_of_bits-or}
 use Rattle.cm_names.proofs.rights.Rights.union.Goals as goal
 
 pub invariant_of-result : goal.invariant_of-result

@@ -1,6 +1,6 @@
 use Rattle.std.proofs.Common.{◌∙◌, refl}
 use Rattle.std.proofs.lemmas.Str.{IsUtf8-append}
-use Rattle.cm_names.proofs.texts.ShortLemmas.{both-put, room-stays}
+use Rattle.cm_names.proofs.lemmas.texts.Short.{both-put, room-stays}
 use Rattle.cm_names.proofs.short.Short.join.Goals as goal
 
 pub invariant_of-result : goal.invariant_of-result

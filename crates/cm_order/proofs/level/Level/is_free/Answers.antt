@@ -1,4 +1,4 @@
-use Rattle.cm_order.proofs.levels.Leaving.{free_unnamed, free_doomed, free_named}
+use Rattle.cm_order.proofs.lemmas.levels.Leaving.{free_unnamed, free_doomed, free_named}
 use Rattle.cm_order.proofs.level.Level.is_free.Goals as goal
 
 pub returns-in_default : goal.returns-in_default

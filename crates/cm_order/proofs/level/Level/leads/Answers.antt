@@ -1,6 +1,6 @@
 use Rattle.std.proofs.Common.{find, ◌==◌, sym, ◌∙◌, ap}
 use Rattle.cm_order.specs.Levels.{IsMember}
-use Rattle.cm_order.proofs.levels.Leading.{each_found, found_inc, member_there, shut_not, leads_by}
+use Rattle.cm_order.proofs.lemmas.levels.Leading.{each_found, found_inc, member_there, shut_not, leads_by}
 use Rattle.cm_order.proofs.level.Level.leads.Goals as goal
 
 pub returns-in_default : goal.returns-in_default

@@ -1,5 +1,5 @@
 use Rattle.std.proofs.Common.{sym, ◌∙◌, arith}
-use Rattle.cm_order.proofs.searches.Reaching.{closing_on}
+use Rattle.cm_order.proofs.lemmas.searches.Reaching.{closing_on}
 use Rattle.cm_order.proofs.plan.DescentPlan.closes.Goals as goal
 
 pub returns-then-stand-inc : goal.returns-then-stand-inc

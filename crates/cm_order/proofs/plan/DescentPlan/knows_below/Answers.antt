@@ -1,5 +1,5 @@
 use Rattle.std.proofs.Common.{arith}
-use Rattle.cm_order.proofs.searches.Reaching.{kids_on}
+use Rattle.cm_order.proofs.lemmas.searches.Reaching.{kids_on}
 use Rattle.cm_order.proofs.plan.DescentPlan.knows_below.Goals as goal
 
 pub returns-then-stand-inc : goal.returns-then-stand-inc

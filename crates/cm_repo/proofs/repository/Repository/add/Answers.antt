@@ -2,7 +2,7 @@ use Rattle.std.proofs.Common.{◌≡◌, ◌++◌, ◌∷◌, [], true, None, Ok
 use Rattle.cm_facts.proofs.Options.{is_some_false}
 use Rattle.cm_repo.specs.Blocks.{blocks_of, block_at}
 use Rattle.cm_repo.specs.BlocksInside.{FindsAlso}
-use Rattle.cm_repo.proofs.BlockLemmas.{is_some-block_at, blocks_of-insert, added-repeated, added-new, FindsAlso-push}
+use Rattle.cm_repo.proofs.lemmas.Block.{is_some-block_at, blocks_of-insert, added-repeated, added-new, FindsAlso-push}
 use Rattle.cm_repo.proofs.repository.Repository.add.Goals as goal
 
 pub returns-then-contains_key-clause-refused : goal.returns-then-contains_key-clause-refused

@@ -1,6 +1,6 @@
 use Rattle.std.proofs.Common.{sym, ap, ◌∙◌}
 use Rattle.cm_repo.specs.Blocks.{block_at}
-use Rattle.cm_repo.proofs.BlockLemmas.{block_at-entries}
+use Rattle.cm_repo.proofs.lemmas.Block.{block_at-entries}
 use Rattle.cm_repo.proofs.repository.Repository.find.Goals as goal
 
 pub returns : goal.returns

@@ -9,10 +9,10 @@ use Rattle.cm_world.specs.After.{with_row}
 use Rattle.cm_dynamic.specs.Laws.{CanTakeChild}
 use Rattle.cm_laws.specs.Story.{world_of, entry_of}
 use Rattle.cm_steps.specs.Inside.{world_in}
-use Rattle.cm_steps.proofs.steps.Stepping.{one_pushed, kept_rows}
-use Rattle.cm_steps.proofs.expiries.Removing.{tasked_added}
-use Rattle.cm_steps.proofs.read.Creations.{created_fits}
-use Rattle.cm_cache.proofs.histories.Dooming.{others_doom_none}
+use Rattle.cm_steps.proofs.lemmas.steps.Stepping.{one_pushed, kept_rows}
+use Rattle.cm_steps.proofs.lemmas.expiries.Removing.{tasked_added}
+use Rattle.cm_steps.proofs.lemmas.read.Creations.{created_fits}
+use Rattle.cm_cache.proofs.lemmas.histories.Dooming.{others_doom_none}
 use Rattle.cm_steps.proofs.realm.Realm.add_child.Goals as goal
 
 pub add_row-requires-clause-room : goal.add_row-requires-clause-room

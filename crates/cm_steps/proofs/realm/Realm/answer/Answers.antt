@@ -8,12 +8,12 @@ use Rattle.cm_world.specs.World.{World}
 use Rattle.cm_world.specs.Route.{IsWalked}
 use Rattle.cm_world.specs.Legal.{IsStep}
 use Rattle.cm_laws.specs.Story.{Story, world_of, entry_of}
-use Rattle.cm_cache.proofs.histories.Going.{beside_is_few, asked_after}
+use Rattle.cm_cache.proofs.lemmas.histories.Going.{beside_is_few, asked_after}
 use Rattle.cm_steps.specs.Asking.{may_ask, event_of, reply_of, IsRightAt}
 use Rattle.cm_steps.specs.Inside.{world_in}
-use Rattle.cm_steps.proofs.asked.Askers.{asks_for, asks_step}
-use Rattle.cm_steps.proofs.steps.Going.{goes_on, one_longer}
-use Rattle.cm_steps.proofs.asked.Keepers.{asks_beside, right_in}
+use Rattle.cm_steps.proofs.lemmas.asked.Askers.{asks_for, asks_step}
+use Rattle.cm_steps.proofs.lemmas.steps.Going.{goes_on, one_longer}
+use Rattle.cm_steps.proofs.lemmas.asked.Keepers.{asks_beside, right_in}
 use Rattle.cm_steps.proofs.realm.Realm.answer.Goals as goal
 
 pub answer-requires : goal.answer-requires

@@ -8,7 +8,7 @@ use Rattle.cm_laws.specs.Story.{world_of, entry_of, AddsEntry}
 use Rattle.cm_cache.specs.Keeping.{asked_by}
 use Rattle.cm_steps.specs.Asking.{may_ask, event_of, reply_of, refusal_of}
 use Rattle.cm_steps.specs.Inside.{world_in}
-use Rattle.cm_steps.proofs.asked.Askers.{asks_none, asks_quiet, refused_step}
+use Rattle.cm_steps.proofs.lemmas.asked.Askers.{asks_none, asks_quiet, refused_step}
 use Rattle.cm_steps.proofs.realm.Realm.ask.Goals as goal
 
 pub answer-requires : goal.answer-requires

@@ -14,17 +14,17 @@ use Rattle.cm_laws.specs.Story.{world_of, entry_of}
 use Rattle.cm_laws.specs.Tasks.{IsNumbered, IsTasked}
 use Rattle.cm_steps.specs.Tasks.{is_open_resolve, IsIdleAt}
 use Rattle.cm_steps.specs.Inside.{world_in}
-use Rattle.cm_steps.proofs.steps.Counts.{count_more}
-use Rattle.cm_steps.proofs.steps.Going.{goes_on, one_longer}
-use Rattle.cm_steps.proofs.actions.Begun.{new_resolve}
-use Rattle.cm_laws.proofs.actions.Tasks.{numbered_more, tasked_begun}
+use Rattle.cm_steps.proofs.lemmas.steps.Counts.{count_more}
+use Rattle.cm_steps.proofs.lemmas.steps.Going.{goes_on, one_longer}
+use Rattle.cm_steps.proofs.lemmas.actions.Begun.{new_resolve}
+use Rattle.cm_laws.proofs.lemmas.actions.Tasks.{numbered_more, tasked_begun}
 use Rattle.cm_cache.specs.Keeping.{asked_by}
 use Rattle.cm_cache.specs.Beside.{is_emptied, followed}
 use Rattle.cm_steps.specs.Planned.{IsPlannedBy}
-use Rattle.cm_cache.proofs.histories.Dooming.{others_doom_none}
-use Rattle.cm_steps.proofs.asked.Keepers.{goes_beside}
-use Rattle.cm_steps.proofs.Planning.{planned_after}
-use Rattle.cm_steps.proofs.steps.Telling.{told_none}
+use Rattle.cm_cache.proofs.lemmas.histories.Dooming.{others_doom_none}
+use Rattle.cm_steps.proofs.lemmas.asked.Keepers.{goes_beside}
+use Rattle.cm_steps.proofs.lemmas.Planning.{planned_after}
+use Rattle.cm_steps.proofs.lemmas.steps.Telling.{told_none}
 use Rattle.cm_steps.proofs.realm.Realm.begin_action.Goals as goal
 
 pub invariant_of-self : goal.invariant_of-self

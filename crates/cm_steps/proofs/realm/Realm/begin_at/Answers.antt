@@ -3,7 +3,7 @@ use Rattle.cm_world.specs.World.{World}
 use Rattle.cm_laws.specs.Story.{world_of}
 use Rattle.cm_steps.specs.Inside.{world_in}
 use Rattle.cm_steps.specs.Answers.{AnswersBegin, BeginsOrWaits}
-use Rattle.cm_steps.proofs.actions.Waits.{begins_by}
+use Rattle.cm_steps.proofs.lemmas.actions.Waits.{begins_by}
 use Rattle.cm_steps.proofs.realm.Realm.begin_at.Goals as goal
 
 pub begin_by-requires-clause-answer : goal.begin_by-requires-clause-answer

@@ -4,7 +4,7 @@ use Rattle.cm_world.specs.Begin.{begin_reply}
 use Rattle.cm_world.specs.World.{World}
 use Rattle.cm_laws.specs.Story.{world_of}
 use Rattle.cm_steps.specs.Answers.{BeginsOrWaits}
-use Rattle.cm_steps.proofs.actions.Begun.{idle_begun}
+use Rattle.cm_steps.proofs.lemmas.actions.Begun.{idle_begun}
 use Rattle.cm_steps.proofs.realm.Realm.begin_by.Goals as goal
 
 pub begin_action-requires-clause-step : goal.begin_action-requires-clause-step

@@ -3,7 +3,7 @@ use Rattle.cm_world.specs.World.{World}
 use Rattle.cm_laws.specs.Story.{world_of}
 use Rattle.cm_steps.specs.Inside.{world_in}
 use Rattle.cm_steps.specs.Answers.{CreatesBy}
-use Rattle.cm_steps.proofs.steps.Stepping.{sound_in}
+use Rattle.cm_steps.proofs.lemmas.steps.Stepping.{sound_in}
 use Rattle.cm_steps.proofs.realm.Realm.create_at.Goals as goal
 
 pub create_answer-requires : goal.create_answer-requires

@@ -5,7 +5,7 @@ use Rattle.cm_world.specs.declared.event.Event.TheVariants.{Pick}
 use Rattle.cm_laws.specs.Story.{world_of}
 use Rattle.cm_steps.specs.Inside.{world_in}
 use Rattle.cm_steps.specs.Enabled.{IsEnabledBut}
-use Rattle.cm_steps.proofs.steps.Stepping.{sound_in}
+use Rattle.cm_steps.proofs.lemmas.steps.Stepping.{sound_in}
 use Rattle.cm_steps.proofs.realm.Realm.enabled.Goals as goal
 
 pub has_pick-requires : goal.has_pick-requires

@@ -13,14 +13,14 @@ use Rattle.cm_steps.specs.Ends.{inc_of, finish_of, takes_of}
 use Rattle.cm_steps.specs.Tasks.{is_open_resolve}
 use Rattle.cm_laws.specs.Story.{world_of, entry_of}
 use Rattle.cm_laws.specs.Tasks.{IsNumbered}
-use Rattle.cm_steps.proofs.steps.Counts.{open_less}
-use Rattle.cm_steps.proofs.actions.Ends.{inc-ended, can_take, kept_ended}
+use Rattle.cm_steps.proofs.lemmas.steps.Counts.{open_less}
+use Rattle.cm_steps.proofs.lemmas.actions.Ends.{inc-ended, can_take, kept_ended}
 use Rattle.cm_cache.specs.Beside.{is_emptied, followed, IsReported, goes_some_by}
 use Rattle.cm_steps.specs.Planned.{IsPlannedBy}
-use Rattle.cm_cache.proofs.histories.Dooming.{ends_doom}
+use Rattle.cm_cache.proofs.lemmas.histories.Dooming.{ends_doom}
 use Rattle.cm_steps.specs.Inside.{world_in}
-use Rattle.cm_steps.proofs.asked.Keepers.{increasing_in}
-use Rattle.cm_steps.proofs.expiries.Closing.{orderly_in, still_closed}
+use Rattle.cm_steps.proofs.lemmas.asked.Keepers.{increasing_in}
+use Rattle.cm_steps.proofs.lemmas.expiries.Closing.{orderly_in, still_closed}
 use Rattle.cm_steps.proofs.realm.Realm.end.Goals as goal
 
 pub inc_at-inc-requires : goal.inc_at-inc-requires

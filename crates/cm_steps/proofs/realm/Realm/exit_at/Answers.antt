@@ -3,7 +3,7 @@ use Rattle.cm_world.specs.World.{World}
 use Rattle.cm_laws.specs.Story.{world_of}
 use Rattle.cm_steps.specs.Inside.{world_in}
 use Rattle.cm_steps.specs.Answers.{ExitsBy}
-use Rattle.cm_steps.proofs.actions.Waits.{exits_by}
+use Rattle.cm_steps.proofs.lemmas.actions.Waits.{exits_by}
 use Rattle.cm_steps.proofs.realm.Realm.exit_at.Goals as goal
 
 pub exit_by-requires-clause-answer : goal.exit_by-requires-clause-answer

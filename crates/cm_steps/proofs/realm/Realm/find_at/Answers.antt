@@ -2,8 +2,8 @@ use Rattle.std.proofs.Common.{sym, ◌∙◌, ap, subst}
 use Rattle.cm_world.specs.declared.event.Event.TheVariants as event
 use Rattle.cm_world.specs.Legal.{IsStep}
 use Rattle.cm_laws.specs.Story.{world_of, entry_of}
-use Rattle.cm_steps.proofs.steps.Stepping.{sound_in}
-use Rattle.cm_steps.proofs.steps.Rooted.{root_in}
+use Rattle.cm_steps.proofs.lemmas.steps.Stepping.{sound_in}
+use Rattle.cm_steps.proofs.lemmas.steps.Rooted.{root_in}
 use Rattle.cm_steps.proofs.realm.Realm.find_at.Goals as goal
 
 pub found-requires-clause-orderly : goal.found-requires-clause-orderly

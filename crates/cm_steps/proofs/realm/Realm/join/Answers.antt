@@ -9,13 +9,13 @@ use Rattle.cm_world.specs.Begin.{begin_reply}
 use Rattle.cm_world.specs.After.{after}
 use Rattle.cm_laws.specs.Story.{world_of, entry_of}
 use Rattle.cm_steps.specs.Inside.{world_in}
-use Rattle.cm_steps.proofs.steps.Going.{goes_on, one_longer}
-use Rattle.cm_steps.proofs.actions.Joined.{length-joined}
-use Rattle.cm_cache.proofs.histories.Dooming.{others_doom_none}
-use Rattle.cm_steps.proofs.asked.Keepers.{goes_beside}
+use Rattle.cm_steps.proofs.lemmas.steps.Going.{goes_on, one_longer}
+use Rattle.cm_steps.proofs.lemmas.actions.Joined.{length-joined}
+use Rattle.cm_cache.proofs.lemmas.histories.Dooming.{others_doom_none}
+use Rattle.cm_steps.proofs.lemmas.asked.Keepers.{goes_beside}
 use Rattle.cm_cache.specs.Beside.{is_emptied}
-use Rattle.cm_steps.proofs.Planning.{planned_same}
-use Rattle.cm_steps.proofs.steps.Telling.{told_none}
+use Rattle.cm_steps.proofs.lemmas.Planning.{planned_same}
+use Rattle.cm_steps.proofs.lemmas.steps.Telling.{told_none}
 use Rattle.cm_steps.proofs.realm.Realm.join.Goals as goal
 
 pub invariant_of-self-2 : goal.invariant_of-self-2

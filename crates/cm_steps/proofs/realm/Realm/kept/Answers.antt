@@ -1,7 +1,7 @@
 use Rattle.std.proofs.Common.{sym, subst}
 use Rattle.cm_laws.specs.Story.{Story}
 use Rattle.cm_cache.specs.Keeping.{IsKeptNumber}
-use Rattle.cm_cache.proofs.histories.Going.{beside_is_number}
+use Rattle.cm_cache.proofs.lemmas.histories.Going.{beside_is_number}
 use Rattle.cm_steps.proofs.realm.Realm.kept.Goals as goal
 
 pub returns : goal.returns

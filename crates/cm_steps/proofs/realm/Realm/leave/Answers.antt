@@ -9,13 +9,13 @@ use Rattle.cm_world.specs.Reports.{exit_reply}
 use Rattle.cm_world.specs.End.{changed, set_on}
 use Rattle.cm_world.specs.Expiring.{expired}
 use Rattle.cm_laws.specs.Story.{world_of, entry_of}
-use Rattle.cm_laws.proofs.actions.Tasks.{tasked_changed}
-use Rattle.cm_laws.proofs.sound.Expiries.{tasked_expired}
+use Rattle.cm_laws.proofs.lemmas.actions.Tasks.{tasked_changed}
+use Rattle.cm_laws.proofs.lemmas.sound.Expiries.{tasked_expired}
 use Rattle.cm_steps.specs.Inside.{world_in}
-use Rattle.cm_steps.proofs.steps.Stepping.{one_pushed, kept_rows}
+use Rattle.cm_steps.proofs.lemmas.steps.Stepping.{one_pushed, kept_rows}
 use Rattle.cm_cache.specs.Beside.{IsReported, goes_some}
-use Rattle.cm_cache.proofs.histories.Dooming.{exits_doom}
-use Rattle.cm_steps.proofs.asked.Keepers.{increasing_in}
+use Rattle.cm_cache.proofs.lemmas.histories.Dooming.{exits_doom}
+use Rattle.cm_steps.proofs.lemmas.asked.Keepers.{increasing_in}
 use Rattle.cm_steps.proofs.realm.Realm.leave.Goals as goal
 
 pub invariant_of-self-2 : goal.invariant_of-self-2

@@ -1,5 +1,5 @@
 use Rattle.std.proofs.Common.{refl}
-use Rattle.cm_steps.proofs.steps.Starting.{kept_new}
+use Rattle.cm_steps.proofs.lemmas.steps.Starting.{kept_new}
 use Rattle.cm_steps.proofs.realm.Realm.new.Goals as goal
 
 pub invariant_of-result : goal.invariant_of-result

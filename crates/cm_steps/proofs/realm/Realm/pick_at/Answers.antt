@@ -4,8 +4,8 @@ use Rattle.cm_world.specs.Step.{may_close}
 use Rattle.cm_laws.specs.Story.{world_of}
 use Rattle.cm_steps.specs.Inside.{world_in}
 use Rattle.cm_steps.specs.Answers.{AnswersPick, PicksOrWaits}
-use Rattle.cm_steps.proofs.steps.Stepping.{sound_in}
-use Rattle.cm_steps.proofs.actions.Waits.{picks_by}
+use Rattle.cm_steps.proofs.lemmas.steps.Stepping.{sound_in}
+use Rattle.cm_steps.proofs.lemmas.actions.Waits.{picks_by}
 use Rattle.cm_steps.proofs.realm.Realm.pick_at.Goals as goal
 
 pub pick_answer-requires : goal.pick_answer-requires

@@ -7,7 +7,7 @@ use Rattle.cm_world.specs.Step.{PicksOn}
 use Rattle.cm_laws.specs.Story.{world_of}
 use Rattle.cm_steps.specs.Answers.{PicksOrWaits}
 use Rattle.cm_steps.specs.Tasks.{IsIdleAt}
-use Rattle.cm_steps.proofs.actions.Begun.{idle_picked}
+use Rattle.cm_steps.proofs.lemmas.actions.Begun.{idle_picked}
 use Rattle.cm_steps.proofs.realm.Realm.pick_by.Goals as goal
 
 pub tell-requires-clause-step : goal.tell-requires-clause-step

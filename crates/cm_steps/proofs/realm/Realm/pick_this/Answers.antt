@@ -7,9 +7,9 @@ use Rattle.cm_laws.specs.Story.{Story, AddsEntry, world_of}
 use Rattle.cm_steps.specs.Steps.{RefusesStep, WaitsToPick}
 use Rattle.cm_steps.specs.Inside.{world_in}
 use Rattle.cm_steps.specs.Answers.{AnswersPick, PicksOrWaits}
-use Rattle.cm_steps.proofs.steps.Stepping.{sound_in}
-use Rattle.cm_steps.proofs.actions.Waits.{picks_by}
-use Rattle.cm_steps.proofs.actions.Chosen.{chosen_can, never_busy}
+use Rattle.cm_steps.proofs.lemmas.steps.Stepping.{sound_in}
+use Rattle.cm_steps.proofs.lemmas.actions.Waits.{picks_by}
+use Rattle.cm_steps.proofs.lemmas.actions.Chosen.{chosen_can, never_busy}
 use Rattle.cm_world.specs.Stopping.{CanPick}
 use Rattle.cm_steps.specs.Chosen.{AnswersThis}
 use Rattle.cm_steps.proofs.realm.Realm.pick_this.Goals as goal

@@ -8,9 +8,9 @@ use Rattle.cm_world.specs.End.{changed, set_closing, set_doomed}
 use Rattle.cm_world.specs.Marks.{mark_reply}
 use Rattle.cm_laws.specs.Story.{world_of, entry_of}
 use Rattle.cm_steps.specs.Inside.{world_in}
-use Rattle.cm_steps.proofs.steps.Stepping.{one_pushed, kept_rows}
-use Rattle.cm_steps.proofs.expiries.Removing.{tasked_marked}
-use Rattle.cm_cache.proofs.histories.Dooming.{marks_doom}
+use Rattle.cm_steps.proofs.lemmas.steps.Stepping.{one_pushed, kept_rows}
+use Rattle.cm_steps.proofs.lemmas.expiries.Removing.{tasked_marked}
+use Rattle.cm_cache.proofs.lemmas.histories.Dooming.{marks_doom}
 use Rattle.cm_steps.proofs.realm.Realm.put_mark.Goals as goal
 
 pub invariant_of-self-2 : goal.invariant_of-self-2

@@ -9,10 +9,10 @@ use Rattle.cm_world.specs.Step.{may_purge}
 use Rattle.cm_world.specs.After.{others_than}
 use Rattle.cm_laws.specs.Story.{world_of, entry_of}
 use Rattle.cm_steps.specs.Inside.{world_in}
-use Rattle.cm_steps.proofs.steps.Stepping.{one_pushed, kept_rows, sound_in}
-use Rattle.cm_laws.proofs.sound.Tasks.{tasked_purged}
-use Rattle.cm_steps.proofs.expiries.Removing.{purge_shut}
-use Rattle.cm_cache.proofs.histories.Dooming.{others_doom_none}
+use Rattle.cm_steps.proofs.lemmas.steps.Stepping.{one_pushed, kept_rows, sound_in}
+use Rattle.cm_laws.proofs.lemmas.sound.Tasks.{tasked_purged}
+use Rattle.cm_steps.proofs.lemmas.expiries.Removing.{purge_shut}
+use Rattle.cm_cache.proofs.lemmas.histories.Dooming.{others_doom_none}
 use Rattle.cm_steps.proofs.realm.Realm.remove.Goals as goal
 
 pub invariant_of-self-2 : goal.invariant_of-self-2

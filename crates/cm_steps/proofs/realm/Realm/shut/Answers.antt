@@ -7,9 +7,9 @@ use Rattle.cm_world.specs.End.{changed, set_shut}
 use Rattle.cm_world.specs.Step.{PicksOff, may_close}
 use Rattle.cm_laws.specs.Story.{world_of, entry_of}
 use Rattle.cm_steps.specs.Inside.{world_in}
-use Rattle.cm_laws.proofs.actions.Tasks.{tasked_changed}
-use Rattle.cm_steps.proofs.steps.Stepping.{one_pushed, kept_rows}
-use Rattle.cm_cache.proofs.histories.Dooming.{others_doom_none}
+use Rattle.cm_laws.proofs.lemmas.actions.Tasks.{tasked_changed}
+use Rattle.cm_steps.proofs.lemmas.steps.Stepping.{one_pushed, kept_rows}
+use Rattle.cm_cache.proofs.lemmas.histories.Dooming.{others_doom_none}
 use Rattle.cm_steps.proofs.realm.Realm.shut.Goals as goal
 
 pub invariant_of-self-2 : goal.invariant_of-self-2

@@ -6,13 +6,13 @@ use Rattle.cm_world.specs.Legal.{IsStep}
 use Rattle.cm_laws.specs.Story.{world_of, entry_of}
 use Rattle.cm_steps.specs.Inside.{world_in}
 use Rattle.cm_world.specs.World.{World}
-use Rattle.cm_steps.proofs.steps.Going.{goes_on, one_longer, after-quiet}
+use Rattle.cm_steps.proofs.lemmas.steps.Going.{goes_on, one_longer, after-quiet}
 use Rattle.cm_cache.specs.Keeping.{asked_by}
-use Rattle.cm_cache.proofs.histories.Dooming.{others_doom_none}
-use Rattle.cm_steps.proofs.asked.Keepers.{quiet_dooms, goes_beside}
+use Rattle.cm_cache.proofs.lemmas.histories.Dooming.{others_doom_none}
+use Rattle.cm_steps.proofs.lemmas.asked.Keepers.{quiet_dooms, goes_beside}
 use Rattle.cm_cache.specs.Beside.{is_emptied}
-use Rattle.cm_steps.proofs.Planning.{planned_same}
-use Rattle.cm_steps.proofs.steps.Telling.{told_same}
+use Rattle.cm_steps.proofs.lemmas.Planning.{planned_same}
+use Rattle.cm_steps.proofs.lemmas.steps.Telling.{told_same}
 use Rattle.cm_steps.proofs.realm.Realm.tell.Goals as goal
 
 pub invariant_of-self : goal.invariant_of-self

@@ -3,7 +3,7 @@ use Rattle.std.proofs.lemmas.Result.{IfOk-weaker}
 use Rattle.cm_world.specs.declared.row.Row.{Row}
 use Rattle.cm_world.specs.Rows.{row_of}
 use Rattle.cm_steps.specs.Answers.{AnswersBegin, AnswersIdle}
-use Rattle.cm_steps.proofs.read.Reading.{idle_answers}
+use Rattle.cm_steps.proofs.lemmas.read.Reading.{idle_answers}
 use Rattle.cm_steps.proofs.replies.beginning.begin_answer.Goals as goal
 
 pub returns-in-None-pending : goal.returns-in-None-pending

@@ -1,5 +1,5 @@
 use Rattle.std.proofs.Common.{arith}
-use Rattle.cm_steps.proofs.read.Kids.{kids_more}
+use Rattle.cm_steps.proofs.lemmas.read.Kids.{kids_more}
 use Rattle.cm_steps.proofs.replies.beginning.eager_among.Goals as goal
 
 pub loop-child-preserved : goal.loop-child-preserved

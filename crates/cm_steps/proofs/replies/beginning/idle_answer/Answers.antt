@@ -1,6 +1,6 @@
 use Rattle.std.proofs.Common.{refl, sym, ◌∙◌, ap}
-use Rattle.cm_world.proofs.trees.Finding.{row_of-inc}
-use Rattle.cm_steps.proofs.read.Reading.{told_of, resolved_is, closed_is, idle_shut, idle_need, idle_begins}
+use Rattle.cm_world.proofs.lemmas.trees.Finding.{row_of-inc}
+use Rattle.cm_steps.proofs.lemmas.read.Reading.{told_of, resolved_is, closed_is, idle_shut, idle_need, idle_begins}
 use Rattle.cm_steps.proofs.replies.beginning.idle_answer.Goals as goal
 
 pub returns-then-closed : goal.returns-then-closed

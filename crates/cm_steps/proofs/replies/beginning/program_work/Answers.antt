@@ -1,4 +1,4 @@
-use Rattle.cm_steps.proofs.read.Reading.{program_made}
+use Rattle.cm_steps.proofs.lemmas.read.Reading.{program_made}
 use Rattle.cm_steps.proofs.replies.beginning.program_work.Goals as goal
 
 pub returns : goal.returns

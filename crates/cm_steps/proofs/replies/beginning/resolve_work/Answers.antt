@@ -1,4 +1,4 @@
-use Rattle.cm_steps.proofs.read.Reading.{resolve_made}
+use Rattle.cm_steps.proofs.lemmas.read.Reading.{resolve_made}
 use Rattle.cm_steps.proofs.replies.beginning.resolve_work.Goals as goal
 
 pub returns : goal.returns

@@ -3,7 +3,7 @@ use Rattle.std.proofs.lemmas.Result.{IfOk-weaker}
 use Rattle.cm_world.specs.declared.row.Row.{Row}
 use Rattle.cm_world.specs.Rows.{row_of}
 use Rattle.cm_world.specs.Work.{program_work, work_of}
-use Rattle.cm_steps.proofs.read.Reading.{start_made}
+use Rattle.cm_steps.proofs.lemmas.read.Reading.{start_made}
 use Rattle.cm_steps.proofs.replies.beginning.work_at.Goals as goal
 
 pub returns-in_ok-eager-in-Start : goal.returns-in_ok-eager-in-Start

@@ -1,5 +1,5 @@
 use Rattle.std.proofs.Common.{arith}
-use Rattle.cm_steps.proofs.read.Creations.{creates_by, siblings_acyclic}
+use Rattle.cm_steps.proofs.lemmas.read.Creations.{creates_by, siblings_acyclic}
 use Rattle.cm_steps.proofs.replies.creating.create_answer.Goals as goal
 
 pub may_create_acyclic-requires : goal.may_create_acyclic-requires

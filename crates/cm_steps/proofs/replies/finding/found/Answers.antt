@@ -1,4 +1,4 @@
-use Rattle.cm_steps.proofs.read.Leading.{unresolved_reply}
+use Rattle.cm_steps.proofs.lemmas.read.Leading.{unresolved_reply}
 use Rattle.cm_steps.proofs.replies.finding.found.Goals as goal
 
 pub returns-in-Unresolved : goal.returns-in-Unresolved

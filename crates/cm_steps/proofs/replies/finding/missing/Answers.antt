@@ -1,4 +1,4 @@
-use Rattle.cm_steps.proofs.read.Leading.{names_within}
+use Rattle.cm_steps.proofs.lemmas.read.Leading.{names_within}
 use Rattle.cm_steps.proofs.replies.finding.missing.Goals as goal
 
 pub not_found-requires : goal.not_found-requires

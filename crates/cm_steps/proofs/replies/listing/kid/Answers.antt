@@ -3,7 +3,7 @@ use Rattle.std.proofs.lemmas.Result.{IfOk-weaker}
 use Rattle.cm_world.specs.declared.row.Row.{Row}
 use Rattle.cm_world.specs.Rows.{row_of}
 use Rattle.cm_steps.specs.Reporting.{kid_as, kid_in}
-use Rattle.cm_steps.proofs.read.Reporting.{kid_found}
+use Rattle.cm_steps.proofs.lemmas.read.Reporting.{kid_found}
 use Rattle.cm_steps.proofs.replies.listing.kid.Goals as goal
 
 pub returns-in-Some-name-clause-kid : goal.returns-in-Some-name-clause-kid

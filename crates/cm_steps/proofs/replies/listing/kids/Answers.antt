@@ -2,8 +2,8 @@ use Rattle.std.proofs.Common.{◌++◌, None, sym, ap, ◌∙◌}
 use Rattle.std.specs.List.{filter_map}
 use Rattle.cm_world.specs.Rows.{has_parent}
 use Rattle.cm_world.specs.Reports.{kid_of}
-use Rattle.cm_walk.proofs.descents.Behind.{behind, taken_first, taken_more, taken_all, left_falls}
-use Rattle.cm_steps.proofs.read.Reporting.{other_kid, own_kid}
+use Rattle.cm_walk.proofs.lemmas.descents.Behind.{behind, taken_first, taken_more, taken_all, left_falls}
+use Rattle.cm_steps.proofs.lemmas.read.Reporting.{other_kid, own_kid}
 use Rattle.cm_steps.proofs.replies.listing.kids.Goals as goal
 
 pub next-init : goal.next-init

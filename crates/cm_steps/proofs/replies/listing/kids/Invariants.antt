@@ -2,7 +2,7 @@ use Rattle.std.proofs.Common.{◌≡◌, ◌++◌}
 use Rattle.std.specs.List.{filter_map}
 use Rattle.cm_world.specs.Rows.{has_parent}
 use Rattle.cm_world.specs.Reports.{kid_of}
-use Rattle.cm_walk.proofs.descents.Behind.{behind, left}
+use Rattle.cm_walk.proofs.lemmas.descents.Behind.{behind, left}
 use Rattle.cm_steps.proofs.replies.listing.kids.Given as goal
 
 -- the children so far, and those among the rows behind, are all

@@ -1,5 +1,5 @@
 use Rattle.std.proofs.Common.{true≢false, sym, ◌∙◌}
-use Rattle.cm_steps.proofs.actions.Chosen.{this_is, as_it_is}
+use Rattle.cm_steps.proofs.lemmas.actions.Chosen.{this_is, as_it_is}
 use Rattle.cm_steps.proofs.replies.picking.choice.Goals as goal
 
 pub returns-in-Some-clause-chosen : goal.returns-in-Some-clause-chosen

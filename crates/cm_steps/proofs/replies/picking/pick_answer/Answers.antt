@@ -1,6 +1,6 @@
 use Rattle.std.proofs.Common.{subst, ◌∙◌}
 use Rattle.cm_order.specs.Picking.{IsPicked}
-use Rattle.cm_steps.proofs.actions.Picks.{picks_on}
+use Rattle.cm_steps.proofs.lemmas.actions.Picks.{picks_on}
 use Rattle.cm_steps.proofs.replies.picking.pick_answer.Goals as goal
 
 pub returns-in_ok-boxed-in-StopNow-clause-answer : goal.returns-in_ok-boxed-in-StopNow-clause-answer

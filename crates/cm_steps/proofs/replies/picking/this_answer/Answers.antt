@@ -1,7 +1,7 @@
 use Rattle.std.proofs.Common.{◌∙◌}
 use Rattle.std.proofs.lemmas.Option.{MatchOption-at_some}
 use Rattle.cm_order.specs.Picking.{PicksNow, MayBePicked}
-use Rattle.cm_steps.proofs.actions.Chosen.{stops_this}
+use Rattle.cm_steps.proofs.lemmas.actions.Chosen.{stops_this}
 use Rattle.cm_steps.proofs.replies.picking.this_answer.Goals as goal
 
 pub returns-clause-some : goal.returns-clause-some

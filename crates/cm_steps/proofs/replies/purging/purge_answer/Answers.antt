@@ -1,6 +1,6 @@
 use Rattle.std.proofs.Common.{sym, ◌∙◌}
 use Rattle.cm_world.specs.Rows.{subtree}
-use Rattle.cm_steps.proofs.expiries.Removing.{lost_all}
+use Rattle.cm_steps.proofs.lemmas.expiries.Removing.{lost_all}
 use Rattle.cm_steps.proofs.replies.purging.purge_answer.Goals as goal
 
 pub returns : goal.returns

@@ -1,9 +1,9 @@
 use Rattle.std.proofs.Common.{◌++◌, None, Some, cond, sym, ap, ◌∙◌}
 use Rattle.std.specs.List.{filter_map}
 use Rattle.cm_world.specs.Rows.{has_parent}
-use Rattle.cm_world.proofs.trees.Finding.{row_of-inc}
-use Rattle.cm_walk.proofs.descents.Behind.{behind, taken_first, taken_more, taken_all, left_falls}
-use Rattle.cm_steps.proofs.expiries.Dooming.{doomed_child, other_child, own_child, all_children}
+use Rattle.cm_world.proofs.lemmas.trees.Finding.{row_of-inc}
+use Rattle.cm_walk.proofs.lemmas.descents.Behind.{behind, taken_first, taken_more, taken_all, left_falls}
+use Rattle.cm_steps.proofs.lemmas.expiries.Dooming.{doomed_child, other_child, own_child, all_children}
 use Rattle.cm_steps.proofs.replies.reaping.doomed_children.Goals as goal
 
 pub next-init : goal.next-init

@@ -1,8 +1,8 @@
 use Rattle.std.proofs.Common.{◌≡◌, ◌++◌}
 use Rattle.std.specs.List.{filter_map}
 use Rattle.cm_world.specs.Rows.{has_parent}
-use Rattle.cm_steps.proofs.expiries.Dooming.{doomed_child}
-use Rattle.cm_walk.proofs.descents.Behind.{behind, left}
+use Rattle.cm_steps.proofs.lemmas.expiries.Dooming.{doomed_child}
+use Rattle.cm_walk.proofs.lemmas.descents.Behind.{behind, left}
 use Rattle.cm_steps.proofs.replies.reaping.doomed_children.Given as goal
 
 -- the doomed children so far, and those among the rows behind, are all

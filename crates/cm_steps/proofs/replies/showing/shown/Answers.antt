@@ -5,8 +5,8 @@ use Rattle.cm_world.specs.declared.reply.Reply.TheVariants.{Shown}
 use Rattle.cm_world.specs.Rows.{row_of}
 use Rattle.cm_world.specs.RowsInside.{facts_of}
 use Rattle.cm_world.specs.Reports.{look_at, show_reply}
-use Rattle.cm_walk.proofs.ways.Up.{Told, told}
-use Rattle.cm_steps.proofs.read.Reading.{shown_as}
+use Rattle.cm_walk.proofs.lemmas.ways.Up.{Told, told}
+use Rattle.cm_steps.proofs.lemmas.read.Reading.{shown_as}
 use Rattle.cm_steps.proofs.replies.showing.shown.Goals as goal
 
 pub returns-in-Some : goal.returns-in-Some

@@ -1,7 +1,7 @@
 use Rattle.std.proofs.Common.{[], option_map, unwrap_or, ◌∙◌, ap}
 use Rattle.cm_world.specs.declared.reply.Reply.TheVariants.{Shown}
-use Rattle.cm_world.proofs.trees.Finding.{row_of-inc}
-use Rattle.cm_steps.proofs.read.Reading.{resolved_is}
+use Rattle.cm_world.proofs.lemmas.trees.Finding.{row_of-inc}
+use Rattle.cm_steps.proofs.lemmas.read.Reading.{resolved_is}
 use Rattle.cm_steps.proofs.replies.showing.shown_row.Goals as goal
 
 pub returns : goal.returns

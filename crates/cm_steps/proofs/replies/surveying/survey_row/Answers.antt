@@ -1,4 +1,4 @@
-use Rattle.cm_steps.proofs.read.Reporting.{row_made}
+use Rattle.cm_steps.proofs.lemmas.read.Reporting.{row_made}
 use Rattle.cm_steps.proofs.replies.surveying.survey_row.Goals as goal
 
 pub returns : goal.returns

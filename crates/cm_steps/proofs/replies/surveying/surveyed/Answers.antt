@@ -1,6 +1,6 @@
 use Rattle.std.proofs.Common.{sym, ap, ◌∙◌}
 use Rattle.cm_world.specs.declared.reply.Reply.TheVariants.{Surveyed}
-use Rattle.cm_steps.proofs.read.Reporting.{survey_all}
+use Rattle.cm_steps.proofs.lemmas.read.Reporting.{survey_all}
 use Rattle.cm_steps.proofs.replies.surveying.surveyed.Goals as goal
 
 pub returns : goal.returns

@@ -1,5 +1,5 @@
 use Rattle.std.proofs.Common.{refl, ◌∙◌, get_or}
-use Rattle.cm_steps.proofs.expiries.Gathered.{told_more, told_all}
+use Rattle.cm_steps.proofs.lemmas.expiries.Gathered.{told_more, told_all}
 use Rattle.cm_steps.proofs.replies.telling.told_below.Goals as goal
 
 pub loop-inc-preserved : goal.loop-inc-preserved

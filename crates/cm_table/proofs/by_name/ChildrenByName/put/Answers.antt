@@ -4,7 +4,7 @@ use Rattle.std.specs.BTreeMap.{get}
 use Rattle.std.proofs.lemmas.Result.{on_ok_weaker, on_err_weaker}
 use Rattle.cm_table.specs.Names.{child_cmp}
 use Rattle.cm_table.specs.ByName.{word_of, above_of, first_named, led_by}
-use Rattle.cm_table.proofs.indexes.Words.{put_as_first, put_as_other}
+use Rattle.cm_table.proofs.lemmas.indexes.Words.{put_as_first, put_as_other}
 use Rattle.cm_table.proofs.by_name.ChildrenByName.put.Goals as goal
 
 pub returns-then-taken-clause-ok : goal.returns-then-taken-clause-ok

@@ -1,5 +1,5 @@
 use Rattle.std.proofs.Common.{sym, ◌∙◌}
-use Rattle.cm_table.proofs.indexes.Words.{removed_first, removed_other}
+use Rattle.cm_table.proofs.lemmas.indexes.Words.{removed_first, removed_other}
 use Rattle.cm_table.proofs.by_name.ChildrenByName.remove.Goals as goal
 
 pub returns-then-own : goal.returns-then-own

@@ -8,9 +8,9 @@ use Rattle.cm_table.specs.Keys.{EachItem}
 use Rattle.cm_table.specs.Slots.{rows_in}
 use Rattle.cm_table.specs.Monikers.{HasOwnName}
 use Rattle.cm_table.specs.Numbering.{IsBare, HasMarks}
-use Rattle.cm_table.proofs.slots.Numbers.{rows_of_numbered, bare_numbered, marks_numbered, own_numbered}
-use Rattle.cm_table.proofs.monikers.Hanging.{rows_hung, each_hung}
-use Rattle.cm_table.proofs.indexes.Preparing.{kids_first, names_first}
+use Rattle.cm_table.proofs.lemmas.slots.Numbers.{rows_of_numbered, bare_numbered, marks_numbered, own_numbered}
+use Rattle.cm_table.proofs.lemmas.monikers.Hanging.{rows_hung, each_hung}
+use Rattle.cm_table.proofs.lemmas.indexes.Preparing.{kids_first, names_first}
 use Rattle.cm_table.proofs.prepared.Prepared.into_parts.Goals as goal
 
 pub returns-clause-rows : goal.returns-clause-rows

@@ -1,5 +1,5 @@
 use Rattle.std.proofs.Common.{◌∙◌, ap, sym, Some}
-use Rattle.cm_table.proofs.indexes.Naming.{forgotten}
+use Rattle.cm_table.proofs.lemmas.indexes.Naming.{forgotten}
 use Rattle.cm_table.proofs.slot.ChildIndex.forget.Goals as goal
 
 pub returns-then-found-above-clause-names : goal.returns-then-found-above-clause-names

@@ -2,9 +2,9 @@ use Rattle.std.proofs.Common.{◌≡◌, ◌+◌, ◌<◌, ◌^◌, ◌∙◌, S
 use Rattle.std.specs.Prelude.{option_map}
 use Rattle.cm_table.specs.Keys.{nth}
 use Rattle.cm_table.specs.Slots.{kids_at}
-use Rattle.cm_table.proofs.lists.BinarySearch.{nth-some}
-use Rattle.cm_table.proofs.lists.EachItem.{each_nth}
-use Rattle.cm_table.proofs.indexes.Naming.{nth-map}
+use Rattle.cm_table.proofs.lemmas.lists.BinarySearch.{nth-some}
+use Rattle.cm_table.proofs.lemmas.lists.EachItem.{each_nth}
+use Rattle.cm_table.proofs.lemmas.indexes.Naming.{nth-map}
 use Rattle.cm_table.proofs.slot.ChildIndex.kid_at.Goals as goal
 
 pub overflow_add-result : goal.overflow_add-result

@@ -1,7 +1,7 @@
 use Rattle.std.proofs.Common.{ℕ, ◌+◌, ◌-◌, ◌≤◌, ◌∙◌, sym, ap, arith}
 use Rattle.std.specs.Prelude.{option_map}
-use Rattle.cm_table.proofs.lists.Behind.{behind_item}
-use Rattle.cm_table.proofs.indexes.Naming.{all_behind, behind_above, nth-map}
+use Rattle.cm_table.proofs.lemmas.lists.Behind.{behind_item}
+use Rattle.cm_table.proofs.lemmas.indexes.Naming.{all_behind, behind_above, nth-map}
 use Rattle.cm_table.proofs.slot.ChildIndex.kid_behind.Goals as goal
 
 pub returns-then-inc-self : goal.returns-then-inc-self

@@ -1,7 +1,7 @@
 use Rattle.std.proofs.Common.{◌∙◌, sym, ap, find}
 use Rattle.cm_world.specs.RowsInside.{is_behind}
 use Rattle.cm_table.specs.Slots.{kids_at}
-use Rattle.cm_table.proofs.indexes.Naming.{first_behind}
+use Rattle.cm_table.proofs.lemmas.indexes.Naming.{first_behind}
 use Rattle.cm_table.proofs.slot.ChildIndex.next.Goals as goal
 
 pub returns-in-None : goal.returns-in-None

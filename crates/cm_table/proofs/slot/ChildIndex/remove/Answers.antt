@@ -1,7 +1,7 @@
 use Rattle.std.proofs.Common.{ℕ, ◌<◌, ◌∙◌, sym, length, arith}
 use Rattle.cm_table.specs.Keys.{IsPlace, alone}
-use Rattle.cm_table.proofs.lists.BinarySearch.{item_none, is_at, none_last}
-use Rattle.cm_table.proofs.lists.Editing.{drop_none, drop_at, on_some}
+use Rattle.cm_table.proofs.lemmas.lists.BinarySearch.{item_none, is_at, none_last}
+use Rattle.cm_table.proofs.lemmas.lists.Editing.{drop_none, drop_at, on_some}
 use Rattle.cm_table.proofs.slot.ChildIndex.remove.Goals as goal
 
 pub returns-then-count-eq0-clause-kids : goal.returns-then-count-eq0-clause-kids

@@ -14,13 +14,13 @@ use Rattle.cm_table.specs.Numbering.{bare_slot}
 use Rattle.cm_table.specs.Change.{with_row}
 use Rattle.cm_table.specs.Wanted.{HasSourcesOf}
 use Rattle.cm_trees.proofs.rows.Adding.{orderly_added}
-use Rattle.cm_table.proofs.lists.Fitting.{fit_below, fit_within}
-use Rattle.cm_table.proofs.slots.Rowed.{slots_rise, rows_length, rows_same}
-use Rattle.cm_table.proofs.indexes.Indexing.{all_same}
-use Rattle.cm_table.proofs.flags.Keeping.{flags_same, flags_joined}
-use Rattle.cm_table.proofs.monikers.Standing.{standing_zipped, standing_joined}
-use Rattle.cm_table.proofs.slots.Joining.{parent_found, bases_low, rows_joined, all_joined}
-use Rattle.cm_table.proofs.tree.Wanting.{known_wider, known_added}
+use Rattle.cm_table.proofs.lemmas.lists.Fitting.{fit_below, fit_within}
+use Rattle.cm_table.proofs.lemmas.slots.Rowed.{slots_rise, rows_length, rows_same}
+use Rattle.cm_table.proofs.lemmas.indexes.Indexing.{all_same}
+use Rattle.cm_table.proofs.lemmas.flags.Keeping.{flags_same, flags_joined}
+use Rattle.cm_table.proofs.lemmas.monikers.Standing.{standing_zipped, standing_joined}
+use Rattle.cm_table.proofs.lemmas.slots.Joining.{parent_found, bases_low, rows_joined, all_joined}
+use Rattle.cm_table.proofs.lemmas.tree.Wanting.{known_wider, known_added}
 use Rattle.cm_table.proofs.table.Table.add.Goals as goal
 
 pub link-requires-clause-increasing : goal.link-requires-clause-increasing

@@ -8,13 +8,13 @@ use Rattle.cm_table.specs.Slots.{flat, rows_in, with_row_by, inc_of}
 use Rattle.cm_table.specs.Change.{change_row, with_changed}
 use Rattle.cm_trees.proofs.rows.Edits.{length-edit_first}
 use Rattle.cm_trees.proofs.rows.Orderly.{orderly_changed}
-use Rattle.cm_table.proofs.tree.Changes.{keeping, spares}
-use Rattle.cm_table.proofs.lists.Editing.{edited}
-use Rattle.cm_table.proofs.slots.Rowed.{rows_changed, slots_rise}
-use Rattle.cm_table.proofs.flags.Keeping.{unmarking, flags_changed}
-use Rattle.cm_table.proofs.monikers.Standing.{standing_changed}
-use Rattle.cm_table.proofs.indexes.Indexing.{all_changed, each_at}
-use Rattle.cm_table.proofs.tree.Wanting.{gives_changed, known_changed}
+use Rattle.cm_table.proofs.lemmas.tree.Changes.{keeping, spares}
+use Rattle.cm_table.proofs.lemmas.lists.Editing.{edited}
+use Rattle.cm_table.proofs.lemmas.slots.Rowed.{rows_changed, slots_rise}
+use Rattle.cm_table.proofs.lemmas.flags.Keeping.{unmarking, flags_changed}
+use Rattle.cm_table.proofs.lemmas.monikers.Standing.{standing_changed}
+use Rattle.cm_table.proofs.lemmas.indexes.Indexing.{all_changed, each_at}
+use Rattle.cm_table.proofs.lemmas.tree.Wanting.{gives_changed, known_changed}
 use Rattle.cm_table.proofs.table.Table.change.Goals as goal
 
 pub change_in-requires-clause-increasing : goal.change_in-requires-clause-increasing

@@ -6,8 +6,8 @@ use Rattle.cm_table.specs.Tree.{Tree}
 use Rattle.cm_table.specs.Keys.{Increasing}
 use Rattle.cm_table.specs.Monikers.{kept_at}
 use Rattle.cm_table.specs.Slots.{inc_of, flat, slot_of}
-use Rattle.cm_table.proofs.slots.Rowed.{slots_rise}
-use Rattle.cm_table.proofs.monikers.Standing.{kept_if}
+use Rattle.cm_table.proofs.lemmas.slots.Rowed.{slots_rise}
+use Rattle.cm_table.proofs.lemmas.monikers.Standing.{kept_if}
 use Rattle.cm_table.proofs.table.Table.kept_moniker.Goals as goal
 
 pub slot_in-requires-clause-increasing : goal.slot_in-requires-clause-increasing

@@ -1,7 +1,7 @@
 use Rattle.std.proofs.Common.{◌^◌, ◌∙◌, None, sym, ap}
 use Rattle.std.specs.Prelude.{option_map}
 use Rattle.std.specs.Option.{option_copied}
-use Rattle.cm_table.proofs.indexes.Told.{next_none, kids_fit, last_if_none, last_if_some}
+use Rattle.cm_table.proofs.lemmas.indexes.Told.{next_none, kids_fit, last_if_none, last_if_some}
 use Rattle.cm_table.proofs.table.Table.last_child.Goals as goal
 
 pub returns-in-None-clause-none : goal.returns-in-None-clause-none

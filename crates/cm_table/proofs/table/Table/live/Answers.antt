@@ -1,7 +1,7 @@
 use Rattle.std.proofs.Common.{◌∙◌, sym, ap}
 use Rattle.std.specs.Prelude.{option_map}
 use Rattle.std.specs.Option.{option_copied}
-use Rattle.cm_table.proofs.tree.Removing.{start}
+use Rattle.cm_table.proofs.lemmas.tree.Removing.{start}
 use Rattle.cm_table.proofs.table.Table.live.Goals as goal
 
 pub returns-in-None : goal.returns-in-None

@@ -5,8 +5,8 @@ use Rattle.cm_table.specs.Tree.{Tree}
 use Rattle.cm_table.specs.Flags.{flag_in, has_mark}
 use Rattle.cm_table.specs.Keys.{Increasing}
 use Rattle.cm_table.specs.Slots.{inc_of, flat, slot_of}
-use Rattle.cm_table.proofs.slots.Rowed.{slots_rise}
-use Rattle.cm_table.proofs.flags.Flagging.{no_flag, flag-slot, flag-none}
+use Rattle.cm_table.proofs.lemmas.slots.Rowed.{slots_rise}
+use Rattle.cm_table.proofs.lemmas.flags.Flagging.{no_flag, flag-slot, flag-none}
 use Rattle.cm_table.proofs.table.Table.marks_above.Goals as goal
 
 pub slot_in-requires-clause-increasing : goal.slot_in-requires-clause-increasing

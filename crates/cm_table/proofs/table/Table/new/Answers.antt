@@ -9,7 +9,7 @@ use Rattle.cm_table.specs.Slots.{flat, rows_in, slots_in, IsIndexed}
 use Rattle.cm_table.specs.Flags.{AreFlagged, no_flags}
 use Rattle.cm_table.specs.Monikers.{StandWhereKept}
 use Rattle.cm_table.specs.Numbering.{bare_slot}
-use Rattle.cm_table.proofs.tree.First.{flat_first, orderly_first, indexed_first, flagged_first, root_kept, standing_first}
+use Rattle.cm_table.proofs.lemmas.tree.First.{flat_first, orderly_first, indexed_first, flagged_first, root_kept, standing_first}
 use Rattle.cm_table.specs.Wanted.{KnowsWanted}
 use Rattle.cm_table.proofs.table.Table.new.Goals as goal
 

@@ -3,9 +3,9 @@ use Rattle.std.specs.Prelude.{option_and_then}
 use Rattle.cm_world.specs.declared.row.Row.{Row}
 use Rattle.cm_world.specs.Rows.{row_of}
 use Rattle.cm_world.specs.After.{others_than}
-use Rattle.cm_table.proofs.lists.Drops.{length-drop_first}
-use Rattle.cm_table.proofs.tree.Leaves.{without, others_without}
-use Rattle.cm_table.proofs.tree.Removing.{Goes, gone, goes_on}
+use Rattle.cm_table.proofs.lemmas.lists.Drops.{length-drop_first}
+use Rattle.cm_table.proofs.lemmas.tree.Leaves.{without, others_without}
+use Rattle.cm_table.proofs.lemmas.tree.Removing.{Goes, gone, goes_on}
 use Rattle.cm_table.proofs.table.Table.prune.Goals as goal
 
 pub returns-then-leaf-top-clause-next : goal.returns-then-leaf-top-clause-next

@@ -2,7 +2,7 @@ use Rattle.std.proofs.Common.{◌≡◌, None, ◌∙◌, sym, ap, subst}
 use Rattle.cm_world.specs.Rows.{row_of}
 use Rattle.cm_table.specs.Tree.{Tree}
 use Rattle.cm_table.specs.Leaf.{Continues}
-use Rattle.cm_table.proofs.tree.Leaves.{others_than_none}
+use Rattle.cm_table.proofs.lemmas.tree.Leaves.{others_than_none}
 use Rattle.cm_table.proofs.table.Table.remove_below.Goals as goal
 
 pub prune-at-requires : goal.prune-at-requires

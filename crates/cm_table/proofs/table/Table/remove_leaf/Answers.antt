@@ -7,15 +7,15 @@ use Rattle.cm_table.specs.Tree.{Tree}
 use Rattle.cm_table.specs.Keys.{Increasing}
 use Rattle.cm_table.specs.Slots.{inc_of, flat, rows_in, slot_of}
 use Rattle.cm_table.specs.Leaf.{IsLeaf}
-use Rattle.cm_table.proofs.lists.Drops.{length-drop_first}
-use Rattle.cm_table.proofs.tree.Leaves.{without, orderly_without}
-use Rattle.cm_table.proofs.lists.Editing.{dropped}
-use Rattle.cm_table.proofs.slots.Rowed.{row_of-slots, rows_dropped, rows_length, slots_rise, unlinked_rows, unlinked_rise}
-use Rattle.cm_table.proofs.flags.Keeping.{flags_left}
-use Rattle.cm_table.proofs.monikers.Standing.{standing_left}
-use Rattle.cm_table.proofs.indexes.Indexing.{all_gone, each_at}
-use Rattle.cm_table.proofs.tree.Removing.{parent_by_slots}
-use Rattle.cm_table.proofs.tree.Wanting.{known_without}
+use Rattle.cm_table.proofs.lemmas.lists.Drops.{length-drop_first}
+use Rattle.cm_table.proofs.lemmas.tree.Leaves.{without, orderly_without}
+use Rattle.cm_table.proofs.lemmas.lists.Editing.{dropped}
+use Rattle.cm_table.proofs.lemmas.slots.Rowed.{row_of-slots, rows_dropped, rows_length, slots_rise, unlinked_rows, unlinked_rise}
+use Rattle.cm_table.proofs.lemmas.flags.Keeping.{flags_left}
+use Rattle.cm_table.proofs.lemmas.monikers.Standing.{standing_left}
+use Rattle.cm_table.proofs.lemmas.indexes.Indexing.{all_gone, each_at}
+use Rattle.cm_table.proofs.lemmas.tree.Removing.{parent_by_slots}
+use Rattle.cm_table.proofs.lemmas.tree.Wanting.{known_without}
 use Rattle.cm_table.proofs.table.Table.remove_leaf.Goals as goal
 
 pub parent_in-parent-requires-clause-increasing : goal.parent_in-parent-requires-clause-increasing

@@ -12,14 +12,14 @@ use Rattle.cm_table.specs.Slots.{flat, rows_in, with_row_by, inc_of}
 use Rattle.cm_table.specs.Change.{with_changed}
 use Rattle.cm_trees.proofs.rows.Edits.{length-edit_first}
 use Rattle.cm_trees.proofs.rows.Orderly.{orderly_changed}
-use Rattle.cm_table.proofs.tree.Changes.{keeping}
-use Rattle.cm_table.proofs.lists.Editing.{edited}
-use Rattle.cm_table.proofs.slots.Rowed.{rows_changed, rows_length, unlinked_rows, unlinked_rise}
-use Rattle.cm_table.proofs.flags.Flagging.{rows_alike, indexed_alike}
-use Rattle.cm_table.proofs.flags.Keeping.{down, down_still, flags_doomed}
-use Rattle.cm_table.proofs.monikers.Standing.{standing_marked, standing_zipped, standing_changed}
-use Rattle.cm_table.proofs.indexes.Indexing.{all_doomed, each_at}
-use Rattle.cm_table.proofs.tree.Wanting.{known_changed}
+use Rattle.cm_table.proofs.lemmas.tree.Changes.{keeping}
+use Rattle.cm_table.proofs.lemmas.lists.Editing.{edited}
+use Rattle.cm_table.proofs.lemmas.slots.Rowed.{rows_changed, rows_length, unlinked_rows, unlinked_rise}
+use Rattle.cm_table.proofs.lemmas.flags.Flagging.{rows_alike, indexed_alike}
+use Rattle.cm_table.proofs.lemmas.flags.Keeping.{down, down_still, flags_doomed}
+use Rattle.cm_table.proofs.lemmas.monikers.Standing.{standing_marked, standing_zipped, standing_changed}
+use Rattle.cm_table.proofs.lemmas.indexes.Indexing.{all_doomed, each_at}
+use Rattle.cm_table.proofs.lemmas.tree.Wanting.{known_changed}
 use Rattle.cm_table.proofs.table.Table.set_doomed.Goals as goal
 
 pub mark_below-requires-clause-indexed : goal.mark_below-requires-clause-indexed

@@ -5,8 +5,8 @@ use Rattle.cm_table.specs.declared.slot.Slot.{Slot}
 use Rattle.cm_table.specs.Tree.{Tree}
 use Rattle.cm_table.specs.Keys.{Increasing}
 use Rattle.cm_table.specs.Slots.{inc_of, flat, rows_in, slot_of, IsIndexed}
-use Rattle.cm_table.proofs.slots.Rowed.{row_of-slots, slots_rise}
-use Rattle.cm_table.proofs.indexes.Told.{if_found}
+use Rattle.cm_table.proofs.lemmas.slots.Rowed.{row_of-slots, slots_rise}
+use Rattle.cm_table.proofs.lemmas.indexes.Told.{if_found}
 use Rattle.cm_table.proofs.table.Table.slot.Goals as goal
 
 pub slot_in-requires-clause-increasing : goal.slot_in-requires-clause-increasing

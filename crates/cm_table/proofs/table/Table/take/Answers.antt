@@ -12,14 +12,14 @@ use Rattle.cm_table.specs.Flags.{has_mark, AreFlagged}
 use Rattle.cm_table.specs.Keys.{EachItem}
 use Rattle.cm_table.specs.Slots.{flat, rows_in, inc_of, with_row_by, IsIndexed}
 use Rattle.cm_table.specs.Change.{change_row, resolved}
-use Rattle.cm_table.proofs.flags.Keeping.{flags_taken}
-use Rattle.cm_table.proofs.monikers.Standing.{if_kept, standing_taken}
-use Rattle.cm_table.proofs.lists.Editing.{edited}
-use Rattle.cm_table.proofs.tree.Taking.{length-taken}
-use Rattle.cm_table.proofs.slots.Rowed.{rows_length, slots_rise}
-use Rattle.cm_table.proofs.tree.Resolving.{IsTaken, taken_rows, rows_taken, mid_rises, all_taken}
-use Rattle.cm_table.proofs.lists.Fitting.{fit_below, fit_within}
-use Rattle.cm_table.proofs.tree.Wanting.{gives_changed, known_grown}
+use Rattle.cm_table.proofs.lemmas.flags.Keeping.{flags_taken}
+use Rattle.cm_table.proofs.lemmas.monikers.Standing.{if_kept, standing_taken}
+use Rattle.cm_table.proofs.lemmas.lists.Editing.{edited}
+use Rattle.cm_table.proofs.lemmas.tree.Taking.{length-taken}
+use Rattle.cm_table.proofs.lemmas.slots.Rowed.{rows_length, slots_rise}
+use Rattle.cm_table.proofs.lemmas.tree.Resolving.{IsTaken, taken_rows, rows_taken, mid_rises, all_taken}
+use Rattle.cm_table.proofs.lemmas.lists.Fitting.{fit_below, fit_within}
+use Rattle.cm_table.proofs.lemmas.tree.Wanting.{gives_changed, known_grown}
 use Rattle.cm_table.proofs.table.Table.take.Goals as goal
 use Rattle.cm_trees.proofs.rows.Taking.{orderly_taken}
 

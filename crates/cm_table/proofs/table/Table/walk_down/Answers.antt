@@ -1,4 +1,4 @@
-use Rattle.cm_table.proofs.tree.Removing.{within_child, child_nearer}
+use Rattle.cm_table.proofs.lemmas.tree.Removing.{within_child, child_nearer}
 use Rattle.cm_table.proofs.table.Table.walk_down.Goals as goal
 
 pub loop-child-smaller : goal.loop-child-smaller

@@ -1,7 +1,7 @@
 use Rattle.std.proofs.Common.{◌^◌, ◌∙◌, sym, ap}
 use Rattle.std.specs.Prelude.{option_map}
 use Rattle.std.specs.Option.{option_copied}
-use Rattle.cm_table.proofs.indexes.Told.{next_none, next_told, rises_told, kids_fit}
+use Rattle.cm_table.proofs.lemmas.indexes.Told.{next_none, next_told, rises_told, kids_fit}
 use Rattle.cm_table.proofs.view.TableView.next_child.Goals as goal
 
 pub returns-in-None : goal.returns-in-None

@@ -4,7 +4,7 @@ use Rattle.std.specs.Option.{option_copied}
 use Rattle.cm_world.specs.declared.row.Row.{Row}
 use Rattle.cm_table.specs.Tree.{Tree}
 use Rattle.cm_world.specs.Sound.{IsOrderly}
-use Rattle.cm_table.proofs.tree.Standing.{root_bare, parent_named}
+use Rattle.cm_table.proofs.lemmas.tree.Standing.{root_bare, parent_named}
 use Rattle.cm_table.proofs.view.TableView.place.Goals as goal
 
 pub place_of-requires : goal.place_of-requires

@@ -1,7 +1,7 @@
 use Rattle.std.proofs.Common.{◌∙◌, ◌++◌, Some, option_map, ap, string_bytes}
 use Rattle.cm_text.specs.Scan.{token_of}
 use Rattle.cm_text.specs.Writing.{json_pending}
-use Rattle.cm_text.proofs.JsonLemmas.{pushed}
+use Rattle.cm_text.proofs.lemmas.Json.{pushed}
 use Rattle.cm_text.proofs.writer.JsonWriter.push.Goals as goal
 
 pub returns : goal.returns

@@ -2,7 +2,7 @@ use Rattle.std.proofs.Common.{All, List, length, ap, ◌∙◌, sym, subst, arit
 use Rattle.std.proofs.lemmas.Option.{same_Some}
 use Rattle.cm_turn.specs.History.{entries_by}
 use Rattle.cm_turn.specs.Passes.{PassView, BearsPassOut}
-use Rattle.cm_turn.proofs.Closing.{closes, all_callers}
+use Rattle.cm_turn.proofs.lemmas.Closing.{closes, all_callers}
 use Rattle.cm_turn.proofs.turn.Turn.close.Goals as goal
 
 pub unreachable-requires : goal.unreachable-requires

@@ -3,8 +3,8 @@ use Rattle.atomic_table.specs.Table.{rest}
 use Rattle.std.proofs.lemmas.Option.{same_Some}
 use Rattle.cm_turn.specs.History.{entries_by}
 use Rattle.cm_turn.specs.Passes.{HeldView, view_in}
-use Rattle.cm_turn.proofs.Histories.{entries-left}
-use Rattle.cm_turn.proofs.ViewLists.{slot_same}
+use Rattle.cm_turn.proofs.lemmas.Histories.{entries-left}
+use Rattle.cm_turn.proofs.lemmas.ViewLists.{slot_same}
 use Rattle.cm_turn.proofs.turn.Turn.leave.Goals as goal
 
 pub record_entries-requires-clause-entries : goal.record_entries-requires-clause-entries

@@ -1,4 +1,4 @@
-use Rattle.cm_turn.proofs.PassSteps.{opens}
+use Rattle.cm_turn.proofs.lemmas.PassSteps.{opens}
 use Rattle.cm_turn.proofs.turn.Turn.new.Goals as goal
 
 pub vacant-made-requires : goal.vacant-made-requires

@@ -1,6 +1,6 @@
 use Rattle.std.proofs.Common.{◌∙◌, ap}
 use Rattle.cm_valid.specs.Lookup.{has}
-use Rattle.cm_valid.proofs.NameLemmas.{found_by_bytes}
+use Rattle.cm_valid.proofs.lemmas.Name.{found_by_bytes}
 use Rattle.cm_valid.proofs.names.Names.contains.Goals as goal
 
 pub returns : goal.returns

@@ -1,6 +1,6 @@
 use Rattle.std.proofs.Common.{◌∙◌, ap, ◌||◌, bytes_eq}
 use Rattle.cm_valid.specs.Lookup.{has}
-use Rattle.cm_valid.proofs.NameLemmas.{texts, inserted}
+use Rattle.cm_valid.proofs.lemmas.Name.{texts, inserted}
 use Rattle.cm_valid.proofs.names.Names.insert.Goals as goal
 
 pub returns : goal.returns

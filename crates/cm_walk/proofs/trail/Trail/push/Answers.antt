@@ -1,6 +1,6 @@
 use Rattle.std.proofs.Common.{◌++◌, ◌∷◌, [], ◌∙◌, ap, refl}
 use Rattle.cm_walk.specs.Walking.{as_station}
-use Rattle.cm_walk.proofs.routes.Trails.{IsBehind-more}
+use Rattle.cm_walk.proofs.lemmas.routes.Trails.{IsBehind-more}
 use Rattle.cm_walk.proofs.trail.Trail.push.Goals as goal
 
 pub returns : goal.returns

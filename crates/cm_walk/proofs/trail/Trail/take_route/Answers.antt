@@ -1,6 +1,6 @@
 use Rattle.std.proofs.Common.{◌++◌, ◌∷◌, [], ◌∙◌, ap, refl, reverse}
 use Rattle.cm_walk.specs.Walking.{path_at}
-use Rattle.cm_walk.proofs.routes.Trails.{route_is}
+use Rattle.cm_walk.proofs.lemmas.routes.Trails.{route_is}
 use Rattle.cm_walk.proofs.trail.Trail.take_route.Goals as goal
 
 pub returns : goal.returns

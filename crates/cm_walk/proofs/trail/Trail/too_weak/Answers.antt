@@ -2,7 +2,7 @@ use Rattle.std.proofs.Common.{◌∙◌, ap, option_map, sym}
 use Rattle.cm_decl.specs.Clashes.{or_else}
 use Rattle.cm_world.specs.declared.route.Walked.TheVariants as walked
 use Rattle.cm_world.specs.Route.{weak_rights}
-use Rattle.cm_walk.proofs.routes.Trails.{unsure_is, narrow_is}
+use Rattle.cm_walk.proofs.lemmas.routes.Trails.{unsure_is, narrow_is}
 use Rattle.cm_walk.proofs.trail.Trail.too_weak.Goals as goal
 
 pub returns-in-Some : goal.returns-in-Some

@@ -1,4 +1,4 @@
-use Rattle.cm_steps.proofs.expiries.Removing.{is_lost}
+use Rattle.cm_steps.proofs.lemmas.expiries.Removing.{is_lost}
 use Rattle.cm_steps.proofs.replies.purging.LostReportable.told.Goals as goal
 
 pub returns : goal.returns

@@ -1,5 +1,5 @@
 use Rattle.std.proofs.Common.{sym, ◌∙◌}
-use Rattle.cm_steps.proofs.read.Reporting.{gone_unseen, here_seen}
+use Rattle.cm_steps.proofs.lemmas.read.Reporting.{gone_unseen, here_seen}
 use Rattle.cm_steps.proofs.replies.surveying.SurveyRowReportable.told.Goals as goal
 
 pub returns-then-is_gone : goal.returns-then-is_gone

@@ -1,0 +1,4 @@
+pub mod puts
+pub mod trees
+pub mod histories
+pub mod Crossing

@@ -1,0 +1,10 @@
+pub mod AdditionCounts
+pub mod ChildCounts
+pub mod Count
+pub mod Kind
+pub mod MonikerCounts
+pub mod NameCounts
+pub mod NumberCounts
+pub mod PathCounts
+pub mod RightCounts
+pub mod Url

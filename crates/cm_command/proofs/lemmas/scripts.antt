@@ -1,0 +1,4 @@
+pub mod Lane
+pub mod Lines
+pub mod OneScript
+pub mod ScriptSteps

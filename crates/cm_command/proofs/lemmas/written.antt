@@ -1,0 +1,4 @@
+pub mod ReadCommands
+pub mod Writer
+pub mod WritesLine
+pub mod Written

@@ -1,7 +1,0 @@
-pub mod LineGrammar
-pub mod LineMachine
-pub mod LineWords
-pub mod Machine
-pub mod SpacelessWords
-pub mod StepLemmas
-pub mod QuickWords

@@ -1,4 +1,0 @@
-pub mod LaneLemmas
-pub mod Lines
-pub mod OneScript
-pub mod ScriptSteps

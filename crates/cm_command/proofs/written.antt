@@ -1,4 +1,0 @@
-pub mod ReadCommands
-pub mod WriterLemmas
-pub mod WritesLine
-pub mod WrittenLemmas

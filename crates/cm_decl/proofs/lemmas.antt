@@ -1,0 +1,4 @@
+pub mod Sameness
+pub mod orders
+pub mod cycles
+pub mod faults

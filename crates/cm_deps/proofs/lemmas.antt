@@ -1,0 +1,4 @@
+pub mod listed
+pub mod loops
+pub mod numbers
+pub mod given

@@ -1,0 +1,9 @@
+pub mod Agreeing
+pub mod Steps
+pub mod Firsting
+pub mod Reaching
+pub mod Meeting
+pub mod Firsts
+pub mod Judging
+pub mod Visiting
+pub mod Telling

@@ -1,0 +1,5 @@
+pub mod Splitting
+pub mod Keeping
+pub mod Seeking
+pub mod Finding
+pub mod Within

@@ -1,0 +1,5 @@
+pub mod Known
+pub mod Interruptions
+pub mod Ordering
+pub mod InStep
+pub mod Line

@@ -1,0 +1,6 @@
+pub mod lines
+pub mod phases
+pub mod merged
+pub mod ends
+pub mod Crossing
+pub mod Captures

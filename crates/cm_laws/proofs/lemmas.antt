@@ -1,0 +1,8 @@
+pub mod entries
+pub mod actions
+pub mod levels
+pub mod sound
+pub mod lasting
+pub mod clients
+pub mod destroyed
+pub mod AllLaws

@@ -1,0 +1,5 @@
+pub mod Ends
+pub mod prefixes
+pub mod texts
+pub mod sets
+pub mod Crossing

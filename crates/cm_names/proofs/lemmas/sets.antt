@@ -1,0 +1,4 @@
+pub mod Bit
+pub mod Join
+pub mod Rights
+pub mod Word

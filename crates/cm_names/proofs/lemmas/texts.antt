@@ -1,0 +1,5 @@
+pub mod MonikerParts
+pub mod NameBytes
+pub mod Name
+pub mod Path
+pub mod Short

@@ -1,4 +1,0 @@
-pub mod BitLemmas
-pub mod JoinLemmas
-pub mod RightsLemmas
-pub mod WordLemmas

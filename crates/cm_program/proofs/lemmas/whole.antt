@@ -1,0 +1,10 @@
+pub mod Audit
+pub mod Check
+pub mod Prefix
+pub mod Nothing
+pub mod Printing
+pub mod Reporting
+pub mod Run
+pub mod Saying
+pub mod Verdict
+pub mod Handing

@@ -1,5 +1,0 @@
-pub mod DeclBack
-pub mod RoundTrip
-pub mod RowsBack
-pub mod TextBack
-pub mod PairLemmas

@@ -1,0 +1,5 @@
+pub mod DeclBack
+pub mod RoundTrip
+pub mod RowsBack
+pub mod TextBack
+pub mod Pair

@@ -1,0 +1,4 @@
+pub mod Growing
+pub mod Monikers
+pub mod Written
+pub mod back

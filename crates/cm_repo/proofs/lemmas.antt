@@ -1,0 +1,3 @@
+pub mod Block
+pub mod Examples
+pub mod Url

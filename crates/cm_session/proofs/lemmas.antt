@@ -1,0 +1,5 @@
+pub mod spoken
+pub mod links
+pub mod work
+pub mod ends
+pub mod Captures

@@ -1,0 +1,14 @@
+pub mod Apart
+pub mod Below
+pub mod Ways
+pub mod Folders
+pub mod Judging
+pub mod Telling
+pub mod Once
+pub mod Whole
+pub mod Named
+pub mod Prefixes
+pub mod Knowing
+pub mod Laid
+pub mod Lines
+pub mod Inheriting

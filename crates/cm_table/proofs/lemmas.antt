@@ -1,0 +1,10 @@
+pub mod lists
+pub mod slots
+pub mod tree
+pub mod indexes
+pub mod flags
+pub mod monikers
+pub mod Seeking
+pub mod SeekingUses
+pub mod SeekingNamed
+pub mod Crossing

@@ -1,0 +1,5 @@
+pub mod Cover
+pub mod Cut
+pub mod Fault
+pub mod Piece
+pub mod Sound

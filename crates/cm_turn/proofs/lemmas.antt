@@ -1,0 +1,11 @@
+pub mod ViewLists
+pub mod Histories
+pub mod Moments
+pub mod Tickets
+pub mod RecordsState
+pub mod PassSteps
+pub mod Calls
+pub mod Closing
+pub mod LawProofs
+pub mod SlotMoves
+pub mod AllPasses

@@ -1,0 +1,3 @@
+pub mod ways
+pub mod descents
+pub mod routes

@@ -1,0 +1,3 @@
+pub mod trees
+pub mod examples
+pub mod Crossing

@@ -1,8 +1,0 @@
--- Pairs that are put among members.
-use Rattle.std.proofs.Common.{◌≡◌, [], ◌∷◌, ◌++◌, refl}
-use Rattle.serde_json.specs.Data.{Members, put}
-use Rattle.cm_write.specs.Writing.{Pairs, with_pairs}
-
-pub with_pairs_append : (ms : Members) (ps qs : Pairs) → with_pairs ms (ps ++ qs) ≡ with_pairs (with_pairs ms ps) qs
-with_pairs_append ms [] qs = refl
-with_pairs_append ms (p ∷ ps) qs = with_pairs_append (put p.0 p.1 ms) ps qs
