@@ -12,13 +12,14 @@ use Rattle.std.specs.BTreeMap.{BTreeMap, get}
 use Rattle.std.specs.BTreeSet.{BTreeSet, contains}
 use Rattle.cm_names.specs.declared.child.ChildName.{ChildName}
 use Rattle.cm_names.specs.declared.dependency.Dependency.{Dependency}
+use Rattle.cm_decl.specs.declared.decl.Decl.{Decl}
 use Rattle.cm_decl.specs.declared.origin.Origin.{Origin}
 use Rattle.cm_decl.specs.declared.rows.Give.{Give}
 use Rattle.cm_decl.specs.declared.rows.Offer.{Offer}
 use Rattle.cm_decl.specs.declared.rows.Usage.{Usage}
-use Rattle.cm_decl.specs.Graph.{is_strong, target_of}
+use Rattle.cm_decl.specs.Graph.{is_strong, is_from_child, target_of}
 use Rattle.cm_world.specs.declared.row.Row.{Row}
-use Rattle.cm_world.specs.Rows.{is_subtree_shut}
+use Rattle.cm_world.specs.Rows.{decl_of, is_subtree_shut}
 use Rattle.cm_world.specs.Level.{is_from_row, LevelStrong}
 use Rattle.cm_world.specs.Stopping.{is_wholly_shut, IsFree}
 use Rattle.cm_order.specs.declared.dependents.Dependents.{Dependents}
@@ -73,6 +74,10 @@ is_offered_from rows p name x o = bytes_eq o.to name && is_given_from rows p x o
 abbrev pub is_used_from : List Row → ℕ → ℕ → Usage → Bool
 is_used_from rows p x u = is_strong_from rows p x u.dependency u.from
 
+-- whether a use comes strongly from row x of p's level, a child row
+abbrev pub is_used_of : List Row → ℕ → ℕ → Usage → Bool
+is_used_of rows p x u = is_from_child u.from && is_used_from rows p x u
+
 -- each row but p from which one of these comes is put
 abbrev pub HasSources : {A : Type 0} → ℕ → (ℕ → A → Bool) → List A → (ℕ → Bool) → Type 0
 HasSources p comes_from xs is_put =
@@ -94,6 +99,19 @@ pub record IsPut (rows : List Row) (p : ℕ) (offered : BTreeMap (List ℕ) (Lis
   pub offers : (name : ChildName) (x : ℕ) → r.name ≡ Some name
       → IsTrue (is_offered offered (target_of name) x) → IsTrue (is_client clients x c)
 
+-- row w strongly depends on each row from which one of these comes
+abbrev pub AreStrong : {A : Type 0} → List Row → ℕ → (ℕ → A → Bool) → List A → ℕ → Type 0
+AreStrong rows p comes_from xs w = (x : ℕ) → IsTrue (list_any (comes_from x) xs) → LevelStrong rows p w x
+
+-- each row in the list of another strongly depends on it
+abbrev pub AreClients : List Row → ℕ → BTreeMap ℕ (List ℕ) → Type 0
+AreClients rows p clients = (x z : ℕ) → IsTrue (is_client clients x z) → LevelStrong rows p z x
+
+-- a map has for a name only rows from which an offer of p to that name strongly comes
+abbrev pub AreOffered : List Row → ℕ → BTreeMap (List ℕ) (List ℕ) → Type 0
+AreOffered rows p offered = (name : List ℕ) (x : ℕ) → IsTrue (is_offered offered name x)
+    → (d : Decl) → decl_of rows p ≡ Some d → IsTrue (list_any (is_offered_from rows p name x) d.offers)
+
 -- ---- what is known of a level
 
 -- row z is wholly shut, and so is all that depends on it
@@ -107,9 +125,18 @@ HasClients rows p known =
     (z x : ℕ) → x ≢ p → LevelStrong rows p z x
     → IsTrue (is_client known.edges.clients x z) ⊎ IsTrue (is_in_set known.cleared z)
 
--- the lists have all clients that aren't cleared, and what is said to be cleared is
+-- what strongly depends on a cleared row other than p is cleared
+abbrev pub HasClearedClients : List Row → ℕ → Dependents → Type 0
+HasClearedClients rows p known =
+    (z x : ℕ) → x ≢ p → LevelStrong rows p z x → IsTrue (is_in_set known.cleared x)
+    → IsTrue (is_in_set known.cleared z)
+
+-- the lists have all clients that aren't cleared, and no other row; what is said to be cleared is, and so
+-- are its clients
 pub record KnowsDependents (rows : List Row) (p : ℕ) (known : Dependents) : Type 0 where
   pub clients : HasClients rows p known
+  pub strong : AreClients rows p known.edges.clients
+  pub closed : HasClearedClients rows p known
   pub cleared : (z : ℕ) → IsTrue (is_in_set known.cleared z) → IsCleared rows p z
 
 -- ---- one look

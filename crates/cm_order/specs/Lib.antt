@@ -5,3 +5,4 @@ pub mod Glances
 pub mod Plans
 pub mod Picking
 pub mod Ways
+pub mod Standing

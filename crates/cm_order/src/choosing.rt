@@ -41,8 +41,8 @@ pub fn may_pick<V: View>(alloc: Global, view: &V, target: u64, inc: u64) -> Resu
 /// [`may_pick`], with what is known of levels from the picks before.
 ///
 /// The plan is as that of [`pick_with`](crate::pick_with), and a level that isn't known is looked at
-/// and kept. Where that says nothing of a node on the way up, the level is made with its graph, and of
-/// each child there what stands below it is looked at, up to the first instance that isn't shut.
+/// and kept. At each level on the way up it is asked which nodes depend on the one that leads to the
+/// instance, as far as they aren't known to be cleared.
 pub fn may_pick_with<V: View>(
     alloc: Global,
     view: &V,
@@ -104,8 +104,7 @@ fn is_free_up_to<V: View>(
     ensures free { IfOk result (λ free. IsTrue free ↔ IsFreeUpTo (V.rows view.now) top inc) }
     ensures levels { AreKnown (V.rows view.now) levels.new }
 {
-    let mut kept = None;
-    if !leads_own(alloc, view, &mut kept, inc)? {
+    if !leads_own(alloc, view, levels, inc)? {
         return Ok(false);
     }
     let mut here = inc;
@@ -113,7 +112,7 @@ fn is_free_up_to<V: View>(
         let Some(parent) = parent_of(view, here) else {
             unreachable!();
         };
-        if !leads_up(alloc, view, levels, &mut kept, parent, here)? {
+        if !leads_up(alloc, view, levels, parent, here)? {
             return Ok(false);
         }
         here = parent;

@@ -1,6 +1,7 @@
 //! How what is known of a level changes: nodes are cleared, and children become free.
 
-ghost use Rattle.std.specs.Prelude.{◌≡◌, ◌&&◌, ℕ, List as Seq, false, IsTrue, IfOk, OnOk, ◌⊎◌};
+ghost use Rattle.std.specs.Prelude.{◌≡◌, ◌&&◌, ℕ, List as Seq, true, false, IsTrue, IfOk, OnOk, ◌⊎◌};
+ghost use Rattle.std.specs.Prelude.{if◌then◌else◌};
 ghost use Rattle.std.specs.List.{list_any};
 ghost use Rattle.std.specs.Option.{option_map_or};
 ghost use Rattle.cm_decl.specs.Graph.{is_strong, is_from_child};
@@ -9,6 +10,9 @@ ghost use Rattle.cm_world.specs.Rows.{decl_of, is_subtree_shut};
 ghost use Rattle.cm_world.specs.Sound.{IsSound};
 ghost use Rattle.cm_trees.specs.Kids.{IsKid};
 ghost use Rattle.cm_order.specs.Glances.{is_in_list, is_in_set, IsFreeKid, IsCleared, KnowsDependents};
+ghost use Rattle.cm_order.specs.Standing.{HasNoClient, IsClientLeft, IsLastLeft, IsListEnd};
+ghost use Rattle.std.specs.Ordering.{nat_cmp};
+ghost use Rattle.std.specs.BTreeMap.{is_at};
 
 use crate::above::is_unshut;
 use crate::below::all_shut;
@@ -66,62 +70,13 @@ pub(crate) fn is_open_child<V: View>(
     Ok(false)
 }
 
-/// Clears the nodes that depend on a child and are all shut, from the last one on, and tells whether the
-/// child is free then. `false` says nothing. `leading.rt` asks it.
-pub(crate) fn becomes_free<V: View>(
-    alloc: Global,
-    view: &V,
-    known: &mut Dependents,
-    parent: u64,
-    child: u64,
-) -> Result<bool, Memory>
-    requires sound { IsSound (V.rows view.now) (V.next_inc view.now) }
-    requires known { KnowsDependents (V.rows view.now) parent known.old }
-    ensures free { IfOk result (λ free. IsTrue free → IsFreeKid (V.rows view.now) parent child) }
-    ensures known { OnOk result (KnowsDependents (V.rows view.now) parent known.new) }
-{
-    for _turn in 0..u64::MAX {
-        let Some(client) = known.last_client(child) else {
-            return Ok(is_free_child(view, known, parent, child));
-        };
-        if !is_cleared(alloc, view, known, parent, client)? {
-            return Ok(false);
-        }
-        release(alloc, known, child)?;
-    }
-    Ok(false)
-}
-
-/// Whether a node is cleared, so that no child waits for it any more: it was before, or it is cleared here as
-/// a free child that is all shut. `false` says nothing.
-fn is_cleared<V: View>(
-    alloc: Global,
-    view: &V,
-    known: &mut Dependents,
-    parent: u64,
-    node: u64,
-) -> Result<bool, Memory>
-    requires sound { IsSound (V.rows view.now) (V.next_inc view.now) }
-    requires known { KnowsDependents (V.rows view.now) parent known.old }
-    ensures known { OnOk result (KnowsDependents (V.rows view.now) parent known.new) }
-    ensures told { IfOk result (λ is. IsTrue is → IsTrue (is_in_set known.new.cleared node)) }
-{
-    if known.cleared.contains(&node) {
-        return Ok(true);
-    }
-    if !is_free_child(view, known, parent, node) {
-        return Ok(false);
-    }
-    settle(alloc, view, known, parent, node)?;
-    Ok(known.cleared.contains(&node))
-}
-
 /// Whether an instance is a child of the other, and free at its level, as far as that is known. `false` says
 /// nothing, and nothing is cleared.
 pub(crate) fn is_free_child<V: View>(view: &V, known: &Dependents, parent: u64, child: u64) -> bool
     requires sound { IsSound (V.rows view.now) (V.next_inc view.now) }
     requires known { KnowsDependents (V.rows view.now) parent known.now }
-    ensures { IsTrue result → IsFreeKid (V.rows view.now) parent child }
+    ensures free { IsTrue result → IsFreeKid (V.rows view.now) parent child }
+    ensures none { IsTrue result → HasNoClient known.now child }
 {
     if !is_child(view, parent, child) {
         return false;
@@ -205,6 +160,7 @@ fn settle<V: View>(
     requires sound { IsSound (V.rows view.now) (V.next_inc view.now) }
     requires known { KnowsDependents (V.rows view.now) parent known.old }
     requires free { IsFreeKid (V.rows view.now) parent child }
+    requires none { HasNoClient known.old child }
     ensures { OnOk result (KnowsDependents (V.rows view.now) parent known.new) }
 {
     if !known.waits(child) {
@@ -254,10 +210,15 @@ fn is_one_ahead<V: View>(view: &V, known: &Dependents, parent: u64) -> bool {
     view.next_child(parent, known.passed).is_some()
 }
 
-/// Puts down that a node is cleared, and finds the children that become free by that.
-fn clear(alloc: Global, known: &mut Dependents, node: u64) -> Result<(), Memory>
-    ensures { OnOk result ((rows : Seq Row) (p : ℕ) → KnowsDependents rows p known.old →
-        IsCleared rows p node → KnowsDependents rows p known.new) }
+/// Puts down that a node is cleared, and finds the children that become free by that. The node is the
+/// instance itself, or a child that waits for nothing.
+pub(crate) fn clear(alloc: Global, known: &mut Dependents, node: u64) -> Result<(), Memory>
+    ensures known { OnOk result ((rows : Seq Row) (p : ℕ) → KnowsDependents rows p known.old →
+        IsCleared rows p node → (node ≡ p) ⊎ HasNoClient known.old node →
+        KnowsDependents rows p known.new) }
+    ensures here { OnOk result (IsTrue (is_in_set known.new.cleared node)) }
+    ensures more { OnOk result ((z : ℕ) → is_in_set known.new.cleared z
+        ≡ (if is_at (nat_cmp node) z then true else is_in_set known.old.cleared z)) }
 {
     known.cleared.insert(node)?;
     release_all(alloc, known, node)?;
@@ -266,8 +227,9 @@ fn clear(alloc: Global, known: &mut Dependents, node: u64) -> Result<(), Memory>
 
 /// Leaves what is cleared out of the lists of the children in which this node was put.
 fn release_all(alloc: Global, known: &mut Dependents, node: u64) -> Result<(), Memory>
-    ensures { OnOk result ((rows : Seq Row) (p : ℕ) → KnowsDependents rows p known.old →
+    ensures known { OnOk result ((rows : Seq Row) (p : ℕ) → KnowsDependents rows p known.old →
         KnowsDependents rows p known.new) }
+    ensures cleared { OnOk result (known.new.cleared ≡ known.old.cleared) }
 {
     for place in known.first_edge(node)..usize::MAX {
         let Some(child) = known.source_at(place, node) else {
@@ -281,45 +243,83 @@ fn release_all(alloc: Global, known: &mut Dependents, node: u64) -> Result<(), M
 /// Leaves what is cleared at the end of a child's list out of it. A child whose list is empty then
 /// is put down as one that is free.
 fn release(alloc: Global, known: &mut Dependents, child: u64) -> Result<(), Memory>
-    ensures { OnOk result ((rows : Seq Row) (p : ℕ) → KnowsDependents rows p known.old →
+    ensures known { OnOk result ((rows : Seq Row) (p : ℕ) → KnowsDependents rows p known.old →
         KnowsDependents rows p known.new) }
+    ensures cleared { OnOk result (known.new.cleared ≡ known.old.cleared) }
 {
-    let Some(clients) = known.edges.clients.get_mut(&child) else {
-        return Ok(());
-    };
-    if clients.is_empty() {
+    if known.is_free(child) {
         return Ok(());
     }
-    let left = trim(alloc, &known.cleared, clients)?;
-    if left {
+    if next_client(alloc, known, child)?.is_some() {
         return Ok(());
     }
     known.open.push_back(child)?;
     Ok(())
 }
 
-/// Leaves what is cleared at the end of a list out of it, and tells whether something is left; no clause
-/// says so.
-fn trim(alloc: Global, cleared: &BTreeSet<u64>, list: &mut List<u64>) -> Result<bool, Memory>
-    ensures { OnOk result ((z : ℕ) → IsTrue (is_in_list list.old z) →
+/// The last node in a child's list that isn't known to be cleared. What is cleared behind it is left out.
+pub(crate) fn next_client(
+    alloc: Global,
+    known: &mut Dependents,
+    child: u64,
+) -> Result<Option<u64>, Memory>
+    ensures client { IfOk result (IsClientLeft known.new child) }
+    ensures known { OnOk result ((rows : Seq Row) (p : ℕ) → KnowsDependents rows p known.old →
+        KnowsDependents rows p known.new) }
+    ensures cleared { OnOk result (known.new.cleared ≡ known.old.cleared) }
+{
+    match known.edges.clients.get_mut(&child) {
+        None => Ok(None),
+        Some(clients) => {
+            let last = trim(alloc, &known.cleared, clients)?;
+            Ok(last)
+        }
+    }
+}
+
+/// A list, and the last node in it.
+#[derive(Drop)]
+pub(crate) struct ListEnd {
+    /// The list.
+    pub list: List<u64>,
+    /// Its last node; `None` where it has none.
+    pub last: Option<u64>,
+}
+
+/// Leaves what is cleared at the end of a list out of it, and tells the last one that is left.
+fn trim(
+    alloc: Global,
+    cleared: &BTreeSet<u64>,
+    list: &mut List<u64>,
+) -> Result<Option<u64>, Memory>
+    ensures last { IfOk result (IsLastLeft cleared.now list.new) }
+    ensures left { OnOk result ((z : ℕ) → IsTrue (is_in_list list.old z) →
         IsTrue (is_in_list list.new z) ⊎ IsTrue (is_in_set cleared.now z)) }
+    ensures only { OnOk result ((z : ℕ) → IsTrue (is_in_list list.new z) →
+        IsTrue (is_in_list list.old z)) }
 {
     let all = mem::replace(list, List::new(alloc));
-    *list = without_cleared(cleared, all)?;
-    Ok(!list.is_empty())
+    let ListEnd { list: left, last } = cut(cleared, all)?;
+    *list = left;
+    Ok(last)
 }
 
 /// A list without what is cleared at its end.
-fn without_cleared(cleared: &BTreeSet<u64>, list: List<u64>) -> Result<List<u64>, Memory>
-    ensures { IfOk result (λ left. (z : ℕ) → IsTrue (is_in_list list z) →
-        IsTrue (is_in_list left z) ⊎ IsTrue (is_in_set cleared.now z)) }
+fn cut(cleared: &BTreeSet<u64>, list: List<u64>) -> Result<ListEnd, Memory>
+    ensures { IfOk result (IsListEnd cleared.now list) }
 {
     let mut left = list.into_vec();
     while let Some(last) = left.pop() {
         if !cleared.contains(&last) {
             left.push(last)?;
-            return Ok(List::from_vec(left));
+            return Ok(ListEnd {
+                list: List::from_vec(left),
+                last: Some(last),
+            });
         }
     }
-    Ok(List::from_vec(left))
+    Ok(ListEnd {
+        list: List::from_vec(left),
+        last: None,
+    })
 }

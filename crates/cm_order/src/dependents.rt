@@ -3,21 +3,26 @@
 //! They are gathered by strong edges alone, once for a level: what the instance uses strongly, and
 //! what is strongly offered or given to its children.
 
-ghost use Rattle.std.specs.Prelude.{◌≡◌, ◌≢◌, ℕ, List as Seq, false, Some, None, IsTrue, IfOk, OnOk};
+ghost use Rattle.std.specs.Prelude.{◌≡◌, ◌≢◌, ◌&&◌, ◌⊎◌, ℕ, List as Seq, false, Some, None, IsTrue};
+ghost use Rattle.std.specs.Prelude.{IfOk, OnOk};
+ghost use Rattle.std.specs.List.{list_any};
 ghost use Rattle.std.specs.Ordering.{nat_cmp};
 ghost use Rattle.std.specs.Cmp.Lexicographic.{slice_cmp};
 ghost use Rattle.std.specs.BTreeMap.{get};
 ghost use Rattle.cm_decl.specs.Graph as graph;
+ghost use Rattle.cm_decl.specs.Graph.{is_from_child};
 ghost use Rattle.cm_world.specs.declared.row.Row.{Row};
-ghost use Rattle.cm_world.specs.Level.{is_from_row};
+ghost use Rattle.cm_world.specs.Level.{is_from_row, LevelStrong};
 ghost use Rattle.cm_world.specs.Rows.{row_of, decl_of};
 ghost use Rattle.cm_world.specs.RowsInside.{name_of};
 ghost use Rattle.cm_names.specs.declared.child.ChildName.{ChildName as OneName};
 ghost use Rattle.cm_world.specs.Sound.{IsSound};
 ghost use Rattle.cm_trees.specs.Kids.{IsKid};
 ghost use Rattle.cm_order.specs.Glances.{is_in_list, is_client, ClientsGrow, is_offered, OfferedGrow};
+ghost use Rattle.cm_order.specs.Glances.{AreStrong, AreClients, AreOffered};
 ghost use Rattle.cm_order.specs.Glances.{HasSources, HasOffered, HasNext, IsPut, KnowsDependents};
 ghost use Rattle.cm_order.specs.Glances.{is_strong_from, is_given_from, is_offered_from, is_used_from};
+ghost use Rattle.cm_order.specs.Glances.{is_used_of};
 
 use cm_decl::{Decl, Give, Offer, Origin, Usage};
 use cm_names::{ChildName, Dependency, List, Memory, Name};
@@ -88,11 +93,6 @@ impl Dependents {
             None => true,
             Some(clients) => clients.is_empty(),
         }
-    }
-
-    /// The last node in the list of a child, if there is one.
-    pub(crate) fn last_client(&self, child: u64) -> Option<u64> {
-        self.edges.clients.get(&child)?.as_slice().last().copied()
     }
 
     /// Where the edges of a node begin among those by who depends. A node's stand together, and nodes were
@@ -170,7 +170,9 @@ fn put_level<V: View>(
     edges: &mut LevelEdges,
 ) -> Result<(), Memory>
     requires { IsSound (V.rows view.now) (V.next_inc view.now) }
-    ensures { OnOk result ((w : ℕ) → HasNext (V.rows view.now) parent edges.new.clients w) }
+    ensures all { OnOk result ((w : ℕ) → HasNext (V.rows view.now) parent edges.new.clients w) }
+    ensures real { OnOk result (AreClients (V.rows view.now) parent edges.old.clients →
+        AreClients (V.rows view.now) parent edges.new.clients) }
 {
     match view.decl(parent) {
         None => Ok(()),
@@ -189,7 +191,9 @@ fn put_declared<V: View>(
 ) -> Result<(), Memory>
     requires sound { IsSound (V.rows view.now) (V.next_inc view.now) }
     requires decl { Some decl.now ≡ decl_of (V.rows view.now) parent }
-    ensures { OnOk result ((w : ℕ) → HasNext (V.rows view.now) parent edges.new.clients w) }
+    ensures all { OnOk result ((w : ℕ) → HasNext (V.rows view.now) parent edges.new.clients w) }
+    ensures real { OnOk result (AreClients (V.rows view.now) parent edges.old.clients →
+        AreClients (V.rows view.now) parent edges.new.clients) }
 {
     let mut offered = BTreeMap::new(alloc);
     put_offers(alloc, view, parent, decl.offers.as_slice(), &mut offered)?;
@@ -207,7 +211,10 @@ fn put_offers<V: View>(
     offers: &[Offer],
     offered: &mut BTreeMap<Name, List<u64>>,
 ) -> Result<(), Memory>
-    ensures { OnOk result (HasOffered (V.rows view.now) parent offers.now offered.new) }
+    ensures all { OnOk result (HasOffered (V.rows view.now) parent offers.now offered.new) }
+    ensures real { OnOk result ((name : Seq ℕ) (x : ℕ) → IsTrue (is_offered offered.new name x) →
+        IsTrue (is_offered offered.old name x) ⊎
+        IsTrue (list_any (is_offered_from (V.rows view.now) parent name x) offers.now)) }
 {
     for offer in offers {
         put_offer(alloc, view, parent, offer, offered)?;
@@ -227,6 +234,9 @@ fn put_offer<V: View>(
         IsTrue (is_offered_from (V.rows view.now) parent name x offer.now) →
         IsTrue (is_offered offered.new name x)) }
     ensures kept { OnOk result (OfferedGrow offered.old offered.new) }
+    ensures real { OnOk result ((name : Seq ℕ) (x : ℕ) → IsTrue (is_offered offered.new name x) →
+        IsTrue (is_offered offered.old name x) ⊎
+        IsTrue (is_offered_from (V.rows view.now) parent name x offer.now)) }
 {
     let Some(source) = strong_child(view, parent, offer.give.dependency, &offer.give.from) else {
         return Ok(());
@@ -244,6 +254,8 @@ fn put_name(
 ) -> Result<(), Memory>
     ensures here { OnOk result (IsTrue (is_offered offered.new name.now source)) }
     ensures kept { OnOk result (OfferedGrow offered.old offered.new) }
+    ensures real { OnOk result ((other : Seq ℕ) (x : ℕ) → IsTrue (is_offered offered.new other x) →
+        IsTrue (is_offered offered.old other x) ⊎ ((name.now ≡ other) × (source ≡ x))) }
 {
     match offered.get_mut(name) {
         None => begin_name(alloc, name, source, offered),
@@ -261,6 +273,8 @@ fn begin_name(
     requires { get (slice_cmp nat_cmp) offered.old name.now ≡ None }
     ensures here { OnOk result (IsTrue (is_offered offered.new name.now source)) }
     ensures kept { OnOk result (OfferedGrow offered.old offered.new) }
+    ensures real { OnOk result ((other : Seq ℕ) (x : ℕ) → IsTrue (is_offered offered.new other x) →
+        IsTrue (is_offered offered.old other x) ⊎ ((name.now ≡ other) × (source ≡ x))) }
 {
     let mut list = List::new(alloc);
     list.push(source)?;
@@ -275,8 +289,10 @@ fn strong_child<V: View>(
     dependency: Dependency,
     source: &Origin,
 ) -> Option<u64>
-    ensures { (x : ℕ) → x ≢ parent →
+    ensures found { (x : ℕ) → x ≢ parent →
         IsTrue (is_strong_from (V.rows view.now) parent x dependency source.now) → result ≡ Some x }
+    ensures real { (x : ℕ) → result ≡ Some x → IsTrue (is_from_child source.now &&
+        is_strong_from (V.rows view.now) parent x dependency source.now) }
 {
     match dependency {
         Dependency::Weak => None,
@@ -286,8 +302,10 @@ fn strong_child<V: View>(
 
 /// The child that a source is, if it is one.
 fn child_at<V: View>(view: &V, parent: u64, source: &Origin) -> Option<u64>
-    ensures { (x : ℕ) → x ≢ parent →
+    ensures found { (x : ℕ) → x ≢ parent →
         IsTrue (is_from_row (V.rows view.now) parent x source.now) → result ≡ Some x }
+    ensures real { (x : ℕ) → result ≡ Some x →
+        IsTrue (is_from_child source.now && is_from_row (V.rows view.now) parent x source.now) }
 {
     match source {
         Origin::Child(name) => view.child(parent, name),
@@ -303,8 +321,12 @@ fn put_uses<V: View>(
     uses: &[Usage],
     edges: &mut LevelEdges,
 ) -> Result<(), Memory>
-    ensures { OnOk result (HasSources parent (is_used_from (V.rows view.now) parent) uses.now
+    ensures all { OnOk result (HasSources parent (is_used_from (V.rows view.now) parent) uses.now
         (λ x. is_client edges.new.clients x parent)) }
+    ensures real { OnOk result (
+        AreStrong (V.rows view.now) parent (is_used_of (V.rows view.now) parent) uses.now parent →
+        AreClients (V.rows view.now) parent edges.old.clients →
+        AreClients (V.rows view.now) parent edges.new.clients) }
 {
     for usage in uses {
         let source = strong_child(view, parent, usage.dependency, &usage.from);
@@ -325,6 +347,9 @@ fn put_children<V: View>(
     ensures all { OnOk result ((c : ℕ) → (kid : IsKid (V.rows view.now) parent c) →
         IsPut (V.rows view.now) parent offered.now edges.new.clients c kid.row) }
     ensures kept { OnOk result (ClientsGrow edges.old.clients edges.new.clients) }
+    ensures real { OnOk result (AreOffered (V.rows view.now) parent offered.now →
+        AreClients (V.rows view.now) parent edges.old.clients →
+        AreClients (V.rows view.now) parent edges.new.clients) }
 {
     let mut behind = None;
     while let Some(child) = view.next_child(parent, behind) {
@@ -346,6 +371,10 @@ fn put_child<V: View>(
     ensures put { OnOk result ((r : Row) → row_of (V.rows view.now) child ≡ Some r →
         IsPut (V.rows view.now) parent offered.now edges.new.clients child r) }
     ensures kept { OnOk result (ClientsGrow edges.old.clients edges.new.clients) }
+    ensures real { OnOk result (IsSound (V.rows view.now) (V.next_inc view.now) →
+        IsKid (V.rows view.now) parent child → AreOffered (V.rows view.now) parent offered.now →
+        AreClients (V.rows view.now) parent edges.old.clients →
+        AreClients (V.rows view.now) parent edges.new.clients) }
 {
     let Some(gives) = view.gives(child) else {
         return Ok(());
@@ -367,6 +396,11 @@ fn put_named<V: View>(
         IsTrue (is_offered offered.now (graph.target_of c) x) →
         IsTrue (is_client edges.new.clients x child)) }
     ensures kept { OnOk result (ClientsGrow edges.old.clients edges.new.clients) }
+    ensures real { OnOk result ((p : ℕ) →
+        ((c : OneName) (x : ℕ) → name_of (V.rows view.now) child ≡ Some c →
+            IsTrue (is_offered offered.now (graph.target_of c) x) → LevelStrong (V.rows view.now) p child x) →
+        AreClients (V.rows view.now) p edges.old.clients →
+        AreClients (V.rows view.now) p edges.new.clients) }
 {
     let Some(name) = view.name(child) else {
         return Ok(());
@@ -390,6 +424,10 @@ fn put_gives<V: View>(
     ensures all { OnOk result (HasSources parent (is_given_from (V.rows view.now) parent) gives.now
         (λ x. is_client edges.new.clients x child)) }
     ensures kept { OnOk result (ClientsGrow edges.old.clients edges.new.clients) }
+    ensures real { OnOk result (
+        AreStrong (V.rows view.now) parent (is_given_from (V.rows view.now) parent) gives.now child →
+        AreClients (V.rows view.now) parent edges.old.clients →
+        AreClients (V.rows view.now) parent edges.new.clients) }
 {
     for give in gives {
         let source = strong_child(view, parent, give.dependency, &give.from);
@@ -408,6 +446,9 @@ fn put_sources(
     ensures all { OnOk result ((x : ℕ) → IsTrue (is_in_list list.now x) →
         IsTrue (is_client edges.new.clients x client)) }
     ensures kept { OnOk result (ClientsGrow edges.old.clients edges.new.clients) }
+    ensures real { OnOk result ((rows : Seq Row) (p : ℕ) →
+        ((x : ℕ) → IsTrue (is_in_list list.now x) → LevelStrong rows p client x) →
+        AreClients rows p edges.old.clients → AreClients rows p edges.new.clients) }
 {
     for source in list {
         put_client(alloc, client, *source, edges)?;
@@ -425,6 +466,9 @@ fn put_found(
     ensures here { OnOk result ((x : ℕ) → source ≡ Some x →
         IsTrue (is_client edges.new.clients x client)) }
     ensures kept { OnOk result (ClientsGrow edges.old.clients edges.new.clients) }
+    ensures real { OnOk result ((rows : Seq Row) (p : ℕ) →
+        ((x : ℕ) → source ≡ Some x → LevelStrong rows p client x) →
+        AreClients rows p edges.old.clients → AreClients rows p edges.new.clients) }
 {
     match source {
         None => Ok(()),
@@ -436,6 +480,8 @@ fn put_found(
 fn put_client(alloc: Global, client: u64, source: u64, edges: &mut LevelEdges) -> Result<(), Memory>
     ensures here { OnOk result (IsTrue (is_client edges.new.clients source client)) }
     ensures kept { OnOk result (ClientsGrow edges.old.clients edges.new.clients) }
+    ensures real { OnOk result ((rows : Seq Row) (p : ℕ) → LevelStrong rows p client source →
+        AreClients rows p edges.old.clients → AreClients rows p edges.new.clients) }
 {
     put_in(alloc, source, client, &mut edges.clients)?;
     edges.sources.push(Edge { client, source })?;
@@ -451,6 +497,8 @@ fn put_in(
 ) -> Result<(), Memory>
     ensures here { OnOk result (IsTrue (is_client lists.new key item)) }
     ensures kept { OnOk result (ClientsGrow lists.old lists.new) }
+    ensures real { OnOk result ((rows : Seq Row) (p : ℕ) → LevelStrong rows p item key →
+        AreClients rows p lists.old → AreClients rows p lists.new) }
 {
     match lists.get_mut(&key) {
         None => begin_list(alloc, key, item, lists),
@@ -468,6 +516,8 @@ fn begin_list(
     requires { get nat_cmp lists.old key ≡ None }
     ensures here { OnOk result (IsTrue (is_client lists.new key item)) }
     ensures kept { OnOk result (ClientsGrow lists.old lists.new) }
+    ensures real { OnOk result ((rows : Seq Row) (p : ℕ) → LevelStrong rows p item key →
+        AreClients rows p lists.old → AreClients rows p lists.new) }
 {
     let mut list = List::new(alloc);
     list.push(item)?;
@@ -476,7 +526,7 @@ fn begin_list(
 }
 
 /// The name that an offer to a child is to: that of its collection, if it is in one, else its own.
-pub(crate) fn target_of(child: &ChildName) -> &Name
+fn target_of(child: &ChildName) -> &Name
     ensures { result.now ≡ graph.target_of child.now }
 {
     match &child.coll {

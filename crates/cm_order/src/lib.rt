@@ -8,12 +8,10 @@
 //! |---|---|
 //! | `above` | what the facts of one instance and those above it say |
 //! | `below` | whether all at and below an instance is shut |
-//! | `members` | the instances of one level, and their nodes in its graph |
-//! | `level` | which of them nothing binds any more |
-//! | `leading` | the same, by what is kept of the level where that says it |
+//! | `standing` | whether something still needs a child of a level: the one decider |
+//! | `leading` | which node of a level may be next |
 //! | `search` | an instance that may stop, below another |
 //! | `dependents` | what depends on each child of a level |
-//! | `binding` | whether a child depends on another, by what it is offered and given |
 //! | `clearing` | how what is known of a level changes as its nodes are shut |
 //! | `glance` | a node of a level that nothing binds, by tests that cost little |
 //! | `stand` | a level on a way down, and what is known of it |
@@ -29,20 +27,18 @@
 
 pub(crate) mod above;
 pub(crate) mod below;
-pub(crate) mod binding;
 pub mod choosing;
 pub(crate) mod clearing;
 pub(crate) mod dependents;
 pub(crate) mod glance;
 pub mod laws;
 pub(crate) mod leading;
-pub(crate) mod level;
-pub(crate) mod members;
 pub mod picking;
 pub mod plan;
 pub(crate) mod quick;
 pub(crate) mod search;
 pub(crate) mod stand;
+pub(crate) mod standing;
 
 pub use below::all_shut;
 pub use choosing::{may_close, may_pick, may_pick_with};

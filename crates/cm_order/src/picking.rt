@@ -58,11 +58,9 @@ pub enum Picked {
 /// 64 times.
 ///
 /// Where that leads to no instance that may be picked, it searches, at each level into the first
-/// child that may be next. Then the graph of each level on the way is made once, and once more for
-/// each child on the way below which all instances that may stop have a pending action; and of each
-/// child of these levels what stands below it is looked at, up to the first instance that isn't
-/// shut. The memory is that of one level and its graph at a time, and of a place for each level of
-/// the way. Where no instance may be picked, the search is made twice.
+/// child that may be next. Of each child of the levels on the way what stands below it is looked at, up
+/// to the first instance that isn't shut, and which nodes depend on it, as far as they aren't known to be
+/// cleared. Where no instance may be picked, the search is made twice.
 ///
 /// That clients stop before what they depend on is the rule of Fuchsia's component lifecycle
 /// documentation (fuchsia.dev); how it reaches over several levels is this project's own.

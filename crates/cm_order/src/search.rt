@@ -1,18 +1,16 @@
 //! The search for an instance that may stop.
 
-ghost use Rattle.std.specs.Prelude.{◌≡◌, false, Some, IsTrue, ◌↔◌, IfOk, IfSome};
+ghost use Rattle.std.specs.Prelude.{◌≡◌, false, Some, IsTrue, ◌↔◌, IfOk};
 ghost use Rattle.std.specs.Option.{option_map_or};
 ghost use Rattle.cm_world.specs.Rows.{row_of};
 ghost use Rattle.cm_world.specs.Sound.{IsSound};
 ghost use Rattle.cm_world.specs.Stopping as spec;
-ghost use Rattle.cm_order.specs.Levels.{IsLevel};
 ghost use Rattle.cm_order.specs.Plans.{AreKnown};
 ghost use Rattle.cm_order.specs.Search.{is_wanted, IsHere, IsVisit, IsSearched};
 
 use crate::below::{Spot, go_on};
 use crate::dependents::Dependents;
 use crate::leading::{leads_own, next_leading};
-use crate::level::Level;
 use cm_names::Memory;
 use cm_world::View;
 use std::alloc::Global;
@@ -40,7 +38,7 @@ pub(crate) enum VisitResult {
 /// outermost one that is being shut down. `None` where there is none. `Err` where memory runs out.
 ///
 /// At each level on the way down children are asked one behind another whether they lead, by what is
-/// kept of the level where that says it. Else the level is made with its graph.
+/// kept of the level.
 pub(crate) fn search<V: View>(
     alloc: Global,
     view: &V,
@@ -59,9 +57,8 @@ pub(crate) fn search<V: View>(
         inc: top,
         behind: None,
     })?;
-    let mut kept = None;
     while let Some(spot) = left.pop() {
-        match look_at(alloc, view, levels, &mut kept, wanted, spot)? {
+        match look_at(alloc, view, levels, wanted, spot)? {
             VisitResult::Here => return Ok(Some(spot.inc)),
             VisitResult::Below(child) => go_on(&mut left, spot.inc, child)?,
         }
@@ -69,26 +66,23 @@ pub(crate) fn search<V: View>(
     Ok(None)
 }
 
-/// Visits a place of the search. The level that is kept is the last that was made.
+/// Visits a place of the search.
 fn look_at<V: View>(
     alloc: Global,
     view: &V,
     levels: &mut BTreeMap<u64, Dependents>,
-    kept: &mut Option<Level>,
     wanted: SearchGoal,
     spot: Spot,
 ) -> Result<VisitResult, Memory>
     requires sound { IsSound (V.rows view.now) (V.next_inc view.now) }
     requires levels { AreKnown (V.rows view.now) levels.old }
-    requires kept { IfSome kept.old (IsLevel (V.rows view.now)) }
     ensures visit { IfOk result (IsVisit (V.rows view.now) wanted spot) }
     ensures levels { AreKnown (V.rows view.now) levels.new }
-    ensures kept { IfSome kept.new (IsLevel (V.rows view.now)) }
 {
-    if is_here(alloc, view, kept, wanted, spot)? {
+    if is_here(alloc, view, levels, wanted, spot)? {
         return Ok(VisitResult::Here);
     }
-    let child = next_leading(alloc, view, levels, kept, spot.inc, spot.behind)?;
+    let child = next_leading(alloc, view, levels, spot.inc, spot.behind)?;
     Ok(VisitResult::Below(child))
 }
 
@@ -97,14 +91,14 @@ fn look_at<V: View>(
 fn is_here<V: View>(
     alloc: Global,
     view: &V,
-    kept: &mut Option<Level>,
+    levels: &mut BTreeMap<u64, Dependents>,
     wanted: SearchGoal,
     spot: Spot,
 ) -> Result<bool, Memory>
     requires sound { IsSound (V.rows view.now) (V.next_inc view.now) }
-    requires kept { IfSome kept.old (IsLevel (V.rows view.now)) }
+    requires levels { AreKnown (V.rows view.now) levels.old }
     ensures here { IfOk result (λ here. IsTrue here ↔ IsHere (V.rows view.now) wanted spot) }
-    ensures kept { IfSome kept.new (IsLevel (V.rows view.now)) }
+    ensures levels { AreKnown (V.rows view.now) levels.new }
 {
     if spot.behind.is_some() {
         return Ok(false);
@@ -112,7 +106,7 @@ fn is_here<V: View>(
     if !wants(view, wanted, spot.inc) {
         return Ok(false);
     }
-    let leads = leads_own(alloc, view, kept, spot.inc)?;
+    let leads = leads_own(alloc, view, levels, spot.inc)?;
     Ok(leads)
 }
 

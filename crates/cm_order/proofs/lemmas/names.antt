@@ -1,3 +1,2 @@
--- The one map between the two realm graphs: a level's rows, and the nodes of cm_deps by their names.
-pub mod Edges
+-- What the lists of a level have.
 pub mod Sources

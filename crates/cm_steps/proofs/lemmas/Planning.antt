@@ -250,6 +250,8 @@ module _ (old new : List Row) (next n m : ℕ) (was : IsOrderly old next) (is : 
   level_stays : (p : ℕ) (known : Dependents) → KnowsDependents old p known → KnowsDependents new p known
   level_stays p known it = record {
     clients = λ z x other strong. it.clients z x other (strong_back old new (reads_same old new bares) p z x strong);
+    strong = λ x z there. strong_on old new (reads_same old new bares) p z x (it.strong x z there);
+    closed = λ z x other strong. it.closed z x other (strong_back old new (reads_same old new bares) p z x strong);
     cleared = λ z there. cleared_stays p z (it.cleared z there);
   }
 

@@ -15,8 +15,7 @@ returns-then-not-branch-clause-free g c =
 pub up-init : goal.up-init
 up-init g c = (
   way_first (g.V.View.rows c.args.view.now) (g.V.View.next_inc c.args.view.now) c.requires.sound.orderly c.args.top c.args.inc c.requires.below c.requires.idle (c.in_ok-leads_own.ensures.leads.0 c.if-not-branch.false),
-  c.requires.levels,
-  c.in_ok-leads_own.ensures.kept,
+  c.in_ok-leads_own.ensures.levels,
 )
 
 pub unreachable-requires : goal.unreachable-requires
@@ -37,5 +36,4 @@ up-preserved g c =
     let more = goes_further (g.V.View.rows c.args.view.now) (g.V.View.next_inc c.args.view.now) c.requires.sound.orderly c.args.top c.args.inc c.up.here c.in-Some.parent c.up.invariant.0 c.up-test.true (sym c.in-Some.is ∙ c.parent_of.ensures) in (
       way_further (g.V.View.rows c.args.view.now) (g.V.View.next_inc c.args.view.now) c.requires.sound.orderly c.args.top c.args.inc c.up.here c.in-Some.parent c.up.invariant.0 more (c.in_ok-leads_up.ensures.leads.0 c.if-not-branch-2.false),
       c.in_ok-leads_up.ensures.levels,
-      c.in_ok-leads_up.ensures.kept,
     )

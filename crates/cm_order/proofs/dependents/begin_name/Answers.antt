@@ -5,7 +5,7 @@ use Rattle.std.specs.Cmp.Lexicographic.{slice_cmp}
 use Rattle.std.specs.BTreeMap.{get, is_at}
 use Rattle.cm_decl.proofs.lemmas.Sameness.{never}
 use Rattle.cm_order.specs.Glances.{is_in_list, is_offered}
-use Rattle.cm_order.proofs.lemmas.levels.Lists.{listed_last, same_name, lists_grow}
+use Rattle.cm_order.proofs.lemmas.levels.Lists.{listed_last, same_name, lists_grow, names_more}
 use Rattle.cm_order.proofs.dependents.begin_name.Goals as goal
 
 pub returns : goal.returns
@@ -18,4 +18,8 @@ returns c =
       kept = lists_grow cmp same_name c.args.offered.now c.insert.new.self c.args.name.now c.push.new.self
           (subst (λ k. (q : List ℕ) → get cmp c.insert.new.self q ≡ cond (is_at (cmp k) q) (Some c.push.new.self) (get cmp c.args.offered.now q)) key c.in_ok-insert.ensures.updates.0)
           (λ z there. never (subst (λ o. IsTrue (is_in_list (unwrap_or o []) z)) c.requires there));
+      real = names_more c.args.offered.now c.insert.new.self c.args.name.now c.args.source []
+          (subst (λ l. (q : List ℕ) → get cmp c.insert.new.self q ≡ cond (is_at (cmp c.args.name.now) q) (Some l) (get cmp c.args.offered.now q)) list
+          (subst (λ k. (q : List ℕ) → get cmp c.insert.new.self q ≡ cond (is_at (cmp k) q) (Some c.push.new.self) (get cmp c.args.offered.now q)) key c.in_ok-insert.ensures.updates.0))
+          (λ z none. never none);
     }

@@ -1,5 +1,5 @@
-use Rattle.std.proofs.Common.{refl, sym, ◌∙◌, inl}
-use Rattle.cm_order.proofs.lemmas.levels.Owning.{own_gone, own_bound, own_leads_last}
+use Rattle.std.proofs.Common.{sym, ◌∙◌}
+use Rattle.cm_order.proofs.lemmas.levels.Owning.{own_gone, own_bound, own_leads_last, own_leads_by}
 use Rattle.cm_order.proofs.leading.leads_own.Goals as goal
 
 pub returns-then-is_shut-clause-leads : goal.returns-then-is_shut-clause-leads
@@ -12,5 +12,6 @@ pub returns-then-not-uses_child-clause-leads : goal.returns-then-not-uses_child-
 returns-then-not-uses_child-clause-leads g c =
     own_bound (g.V.View.rows c.args.view.now) (g.V.View.next_inc c.args.view.now) c.requires.sound c.args.inc (c.in_ok-kids.ensures.left c.if-kids.false) (sym c.uses_child.ensures ∙ c.if-not-uses_child.true)
 
-pub leads_at-requires-clause-node : goal.leads_at-requires-clause-node
-leads_at-requires-clause-node g c = inl refl
+pub returns-clause-leads : goal.returns-clause-leads
+returns-clause-leads g c =
+    own_leads_by (g.V.View.rows c.args.view.now) (g.V.View.next_inc c.args.view.now) c.requires.sound c.args.inc c.in_ok-first.first c.is_none.result (sym c.is_shut.ensures ∙ c.if-is_shut.false) c.in_ok-first.ensures.next c.is_none.ensures

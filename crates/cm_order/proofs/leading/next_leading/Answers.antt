@@ -19,7 +19,6 @@ pub loop-child-preserved : goal.loop-child-preserved
 loop-child-preserved g c = (
   passing_on (g.V.View.rows c.args.view.now) (g.V.View.next_inc c.args.view.now) c.requires.sound.orderly c.args.parent c.args.behind c.loop-child.last c.in-Some.child c.in_ok-leads.leads c.loop-child.invariant.0 c.in-Some.ensures c.in_ok-leads.ensures.leads c.if-leads.false,
   c.in_ok-leads.ensures.levels,
-  c.in_ok-leads.ensures.kept,
 )
 
 pub returns-clause-next : goal.returns-clause-next

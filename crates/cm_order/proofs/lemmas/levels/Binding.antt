@@ -1,4 +1,4 @@
--- Which child strongly depends on another.
+-- What a child strongly depends on, by what it was given and by what is offered to its name.
 use Rattle.std.proofs.Common.{◌≡◌, ℕ, ◌<◌, List, [], ◌∷◌, ◌++◌, length, get_or, Bool, true, false, ◌&&◌, Some, IsTrue, filter, map, not, option_map, option_and_then, refl, sym, ◌∙◌, ap, subst, inl, inr}
 use Rattle.std.specs.List.{list_any}
 use Rattle.std.specs.Option.{option_map_or}
@@ -26,12 +26,8 @@ use Rattle.cm_order.proofs.lemmas.names.Sources.{kid_all, gives_same}
 use Rattle.cm_trees.proofs.levels.Shut.{kid_shut}
 use Rattle.cm_trees.proofs.levels.Nodes.{kid_node}
 
--- one of a list passes
-pub any_at : {A : Type 0} (q : A → Bool) (xs : List A) (i : ℕ) (item : A) → i < length xs → item ≡ get_or xs i item → IsTrue (q item) → IsTrue (list_any q xs)
-any_at q xs i item low at passes = list_any_at q xs i item low (subst (λ z. IsTrue (q z)) at passes)
-
 -- what passes one test passes another, once it was kept and changed
-any_to : {A B : Type 0} (q : B → Bool) (f : A → B) (t s : A → Bool) → ((x : A) → IsTrue (s x) → IsTrue (t x) × IsTrue (q (f x))) → (xs : List A) → IsTrue (list_any s xs) → IsTrue (list_any q (map f (filter t xs)))
+pub any_to : {A B : Type 0} (q : B → Bool) (f : A → B) (t s : A → Bool) → ((x : A) → IsTrue (s x) → IsTrue (t x) × IsTrue (q (f x))) → (xs : List A) → IsTrue (list_any s xs) → IsTrue (list_any q (map f (filter t xs)))
 any_to q f t s more [] h = never h
 any_to q f t s more (x ∷ xs) h = by (t x) refl (λ later. any_to q f t s more xs later) where
   by : (b : Bool) → t x ≡ b → (IsTrue (list_any s xs) → IsTrue (list_any q (map f (filter t xs)))) → IsTrue (list_any q (map f (filter t (x ∷ xs))))
@@ -52,12 +48,12 @@ module _ (rows : List Row) (next : ℕ) (sound : IsSound rows next) (p : ℕ) wh
       (λ g comes. (first_so (is_strong g.dependency) (is_from_row rows p x g.from) comes, second_so (is_strong g.dependency) (is_from_row rows p x g.from) comes)) (offers_to d c ++ gives) any
 
   -- A child that was given what comes from a row has that row among its sources.
-  from_given : (d : Decl) (c : ChildName) (gives : List Give) (x : ℕ) → IsTrue (list_any (is_given_from rows p x) gives) → IsTrue (list_any (is_from_row rows p x) (child_sources d c gives))
+  pub from_given : (d : Decl) (c : ChildName) (gives : List Give) (x : ℕ) → IsTrue (list_any (is_given_from rows p x) gives) → IsTrue (list_any (is_from_row rows p x) (child_sources d c gives))
   from_given d c gives x any =
       from_strong d c gives x (list_any-append (is_given_from rows p x) (offers_to d c) gives ∙ or_right (list_any (is_given_from rows p x) (offers_to d c)) (list_any (is_given_from rows p x) gives) any)
 
   -- A child that is offered what comes from a row has that row among its sources.
-  from_offered : (d : Decl) (c : ChildName) (gives : List Give) (x : ℕ) → IsTrue (list_any (is_offered_from rows p (target_of c) x) d.offers) → IsTrue (list_any (is_from_row rows p x) (child_sources d c gives))
+  pub from_offered : (d : Decl) (c : ChildName) (gives : List Give) (x : ℕ) → IsTrue (list_any (is_offered_from rows p (target_of c) x) d.offers) → IsTrue (list_any (is_from_row rows p x) (child_sources d c gives))
   from_offered d c gives x any =
       let offers : IsTrue (list_any (is_given_from rows p x) (offers_to d c)) =
       any_to (is_given_from rows p x) (λ (o : Offer). o.give) (λ o. bytes_eq o.to (target_of c)) (is_offered_from rows p (target_of c) x)
@@ -69,26 +65,10 @@ module _ (rows : List Row) (next : ℕ) (sound : IsSound rows next) (p : ℕ) wh
   row_from d r c x name any = rw name any
 
   -- A child that has a child row among its sources strongly depends on that row.
-  strong_edge : (d : Decl) (c : ChildName) (z x : ℕ) (first : IsKid rows p z) → IsKid rows p x → Some d ≡ decl_of rows p → Some c ≡ name_of rows z → IsTrue (list_any (is_from_row rows p x) (child_sources d c first.row.gives)) → LevelStrong rows p z x
+  pub strong_edge : (d : Decl) (c : ChildName) (z x : ℕ) (first : IsKid rows p z) → IsTrue (is_level_node rows p x) → Some d ≡ decl_of rows p → Some c ≡ name_of rows z → IsTrue (list_any (is_from_row rows p x) (child_sources d c first.row.gives)) → LevelStrong rows p z x
   strong_edge d c z x first second found named any =
       let name : first.row.name ≡ Some c = sym (named ∙ ap (option_and_then (λ r. r.name)) first.lives) in
       let from : IsTrue (list_any (is_from_row rows p x) (level_sources rows p z)) =
       ap (list_any (is_from_row rows p x)) (kid_all rows next sound p d (sym found) z first) ∙ row_from d first.row c x name any in
       and_pair (list_any (is_from_row rows p x) (level_sources rows p z) && is_level_node rows p z) (is_level_node rows p x)
-      (and_pair (list_any (is_from_row rows p x) (level_sources rows p z)) (is_level_node rows p z) from (kid_node rows p z first)) (kid_node rows p x second)
-
-  -- by what it was given
-  pub strong_given : (d : Decl) (c : ChildName) (gives : List Give) (z x : ℕ) → IsKid rows p z → IsKid rows p x → Some d ≡ decl_of rows p → Some c ≡ name_of rows z → Some gives ≡ option_map (λ r. r.gives) (row_of rows z) → IsTrue (list_any (is_given_from rows p x) gives) → LevelStrong rows p z x
-  strong_given d c gives z x first second found named given any =
-      strong_edge d c z x first second found named (from_given d c first.row.gives x (subst (λ l. IsTrue (list_any (is_given_from rows p x) l)) (gives_same rows z gives first.row given first.lives) any))
-
-  -- by what is offered to its name
-  pub strong_offered : (d : Decl) (c : ChildName) (z x : ℕ) → IsKid rows p z → IsKid rows p x → Some d ≡ decl_of rows p → Some c ≡ name_of rows z → IsTrue (list_any (is_offered_from rows p (target_of c) x) d.offers) → LevelStrong rows p z x
-  strong_offered d c z x first second found named any = strong_edge d c z x first second found named (from_offered d c first.row.gives x any)
-
-  -- a child on which one depends that isn't shut doesn't lead
-  pub bound_by : (z x : ℕ) → IsKid rows p z → option_map_or (λ r. not r.shut) (row_of rows z) false ≡ true → LevelStrong rows p z x → IsFreeAt rows p x → ⊥
-  bound_by z x kid unshut strong leads =
-      true_and_false (is_subtree_shut rows z) (sym (kid_shut rows next sound.orderly p z kid) ∙ leads.free z ([], inl strong))
-      (not_true (is_subtree_shut rows z) (λ all. true_and_false kid.row.shut (shut_each rows next sound.orderly z z kid.row all kid.lives (below_self rows next sound.orderly z kid.row kid.lives))
-      (not-true kid.row.shut (sym (ap (λ o. option_map_or (λ r. not r.shut) o false) kid.lives) ∙ unshut))))
+      (and_pair (list_any (is_from_row rows p x) (level_sources rows p z)) (is_level_node rows p z) from (kid_node rows p z first)) second

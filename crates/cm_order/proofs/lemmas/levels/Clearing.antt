@@ -11,9 +11,11 @@ use Rattle.cm_world.specs.RowsInside.{facts_of}
 use Rattle.cm_world.proofs.lemmas.trees.Finding.{none_some, some_same}
 use Rattle.cm_order.specs.declared.dependents.Dependents.{Dependents}
 use Rattle.cm_trees.specs.Kids.{IsKid}
-use Rattle.cm_order.specs.Glances.{is_in_list, is_in_set, IsCleared, KnowsDependents}
+use Rattle.cm_facts.proofs.Booleans.{true_and_false}
+use Rattle.cm_order.specs.Glances.{is_in_list, is_in_set, is_client, IsCleared, KnowsDependents}
+use Rattle.cm_order.specs.Standing.{HasNoClient, IsLastLeft, IsClientLeft}
 use Rattle.cm_order.specs.Plans.{AreKnown}
-use Rattle.cm_order.proofs.lemmas.levels.Lists.{same_number, cond_on, lists_left}
+use Rattle.cm_order.proofs.lemmas.levels.Lists.{same_number, cond_on, lists_left, lists_only}
 
 -- ---- a child
 
@@ -34,17 +36,28 @@ set_by true c there = inl refl
 set_by false c there = inr there
 
 -- A flag that holds still holds where it may be set.
-set_on : (b c : Bool) → IsTrue c → cond b true c ≡ true
+pub set_on : (b c : Bool) → IsTrue c → cond b true c ≡ true
 set_on true c there = refl
 set_on false c there = there
 
--- a node more is cleared
-pub known_more : (rows : List Row) (p node : ℕ) (a b : Dependents) → KnowsDependents rows p a → IsCleared rows p node → b.edges.clients ≡ a.edges.clients → ((q : ℕ) → is_in_set b.cleared q ≡ cond (is_at (nat_cmp node) q) true (is_in_set a.cleared q)) → KnowsDependents rows p b
-known_more rows p node a b is cleared same more = record {
+-- a node more is cleared, that waits for nothing
+pub known_more : (rows : List Row) (p node : ℕ) (a b : Dependents) → KnowsDependents rows p a → IsCleared rows p node → (node ≡ p) ⊎ HasNoClient a node → b.edges.clients ≡ a.edges.clients → ((q : ℕ) → is_in_set b.cleared q ≡ cond (is_at (nat_cmp node) q) true (is_in_set a.cleared q)) → KnowsDependents rows p b
+known_more rows p node a b is cleared alone same more = record {
   clients = λ z x other strong. elim (is.clients z x other strong) [
     | inl there ↦ inl (subst (λ m. IsTrue (is_in_list (unwrap_or (get nat_cmp m x) []) z)) (sym same) there)
     | inr out ↦ inr (more z ∙ set_on (is_at (nat_cmp node) z) (is_in_set a.cleared z) out)
   ];
+  strong = λ x z there. is.strong x z (subst (λ m. IsTrue (is_in_list (unwrap_or (get nat_cmp m x) []) z)) same there);
+  closed = λ z x other strong there. more z ∙ set_on (is_at (nat_cmp node) z) (is_in_set a.cleared z) (elim (set_by (is_at (nat_cmp node) x) (is_in_set a.cleared x) (sym (more x) ∙ there)) [
+    | inl here ↦ (elim alone [
+      | inl own ↦ absurd (other (sym (same_number node x here) ∙ own))
+      | inr none ↦ (elim (is.clients z x other strong) [
+        | inl listed ↦ absurd (true_and_false (is_client a.edges.clients x z) listed (subst (λ y. is_client a.edges.clients y z ≡ false) (same_number node x here) (none z)))
+        | inr out ↦ out
+      ])
+    ])
+    | inr before ↦ is.closed z x other strong before
+  ]);
   cleared = λ z there. elim (set_by (is_at (nat_cmp node) z) (is_in_set a.cleared z) (sym (more z) ∙ there)) [
     | inl here ↦ subst (IsCleared rows p) (same_number node z here) cleared
     | inr before ↦ is.cleared z before
@@ -52,17 +65,28 @@ known_more rows p node a b is cleared same more = record {
 }
 
 -- a list lost some that are cleared
-pub known_left : (rows : List Row) (p child : ℕ) (a b : Dependents) (o : Option (List ℕ)) → KnowsDependents rows p a → b.cleared ≡ a.cleared → ((q : ℕ) → get nat_cmp b.edges.clients q ≡ cond (is_at (nat_cmp child) q) o (get nat_cmp a.edges.clients q)) → ((z : ℕ) → IsTrue (is_in_list (unwrap_or (get nat_cmp a.edges.clients child) []) z) → IsTrue (is_in_list (unwrap_or o []) z) ⊎ IsTrue (is_in_set a.cleared z)) → KnowsDependents rows p b
-known_left rows p child a b o is same changed more = record {
+pub known_left : (rows : List Row) (p child : ℕ) (a b : Dependents) (was list : List ℕ) → KnowsDependents rows p a → b.cleared ≡ a.cleared → get nat_cmp a.edges.clients child ≡ Some was → ((q : ℕ) → get nat_cmp b.edges.clients q ≡ cond (is_at (nat_cmp child) q) (Some list) (get nat_cmp a.edges.clients q)) → ((z : ℕ) → IsTrue (is_in_list was z) → IsTrue (is_in_list list z) ⊎ IsTrue (is_in_set a.cleared z)) → ((z : ℕ) → IsTrue (is_in_list list z) → IsTrue (is_in_list was z)) → KnowsDependents rows p b
+known_left rows p child a b was list is same found changed more only = record {
   clients = λ z x other strong. elim (is.clients z x other strong) [
-    | inl there ↦ (elim (lists_left nat_cmp same_number (λ z. IsTrue (is_in_set a.cleared z)) a.edges.clients b.edges.clients child o changed more x z there) [
+    | inl there ↦ (elim (lists_left nat_cmp same_number (λ z. IsTrue (is_in_set a.cleared z)) a.edges.clients b.edges.clients child (Some list) changed (λ z here. more z (subst (λ o. IsTrue (is_in_list (unwrap_or o []) z)) found here)) x z there) [
       | inl on ↦ inl on
       | inr out ↦ inr (subst (λ s. IsTrue (is_in_set s z)) (sym same) out)
     ])
     | inr out ↦ inr (subst (λ s. IsTrue (is_in_set s z)) (sym same) out)
   ];
+  strong = λ x z there. elim (lists_only nat_cmp a.edges.clients b.edges.clients child list changed x z there) [
+    | inl here ↦ is.strong x z (subst (λ y. IsTrue (is_client a.edges.clients y z)) (same_number child x here.0) (subst (λ o. IsTrue (is_in_list (unwrap_or o []) z)) (sym found) (only z here.1)))
+    | inr before ↦ is.strong x z before
+  ];
+  closed = λ z x other strong there. subst (λ s. IsTrue (is_in_set s z)) (sym same) (is.closed z x other strong (subst (λ s. IsTrue (is_in_set s x)) same there));
   cleared = λ z there. is.cleared z (subst (λ s. IsTrue (is_in_set s z)) same there);
 }
+
+-- what is left of the list of a row
+pub left_told : (known : Dependents) (child : ℕ) (list : List ℕ) (o : Option ℕ) → get nat_cmp known.edges.clients child ≡ Some list → IsLastLeft known.cleared list o → IsClientLeft known child o
+left_told known child list None found empty = λ z.
+    ap (λ o. is_in_list (unwrap_or o []) z) found ∙ ap (λ l. is_in_list l z) empty
+left_told known child list (Some v) found last = (subst (λ o. IsTrue (is_in_list (unwrap_or o []) v)) (sym found) last.0, last.1)
 
 -- where the edges and what is cleared are as they were
 pub known_same : (rows : List Row) (p : ℕ) (a b : Dependents) → b.edges ≡ a.edges → b.cleared ≡ a.cleared → KnowsDependents rows p a → KnowsDependents rows p b
@@ -71,6 +95,8 @@ known_same rows p a b edges cleared is = record {
     | inl there ↦ inl (subst (λ e. IsTrue (is_in_list (unwrap_or (get nat_cmp e.clients x) []) z)) (sym edges) there)
     | inr out ↦ inr (subst (λ s. IsTrue (is_in_set s z)) (sym cleared) out)
   ];
+  strong = λ x z there. is.strong x z (subst (λ e. IsTrue (is_in_list (unwrap_or (get nat_cmp e.clients x) []) z)) edges there);
+  closed = λ z x other strong there. subst (λ s. IsTrue (is_in_set s z)) (sym cleared) (is.closed z x other strong (subst (λ s. IsTrue (is_in_set s x)) cleared there));
   cleared = λ z there. is.cleared z (subst (λ s. IsTrue (is_in_set s z)) cleared there);
 }
 

@@ -33,7 +33,7 @@ module _ (rows : List Row) (next : ℕ) (sound : IsSound rows next) (p : ℕ) wh
   apart c kid = λ same. let higher : p < c = kid_higher rows next sound.orderly p c kid in absurd (omega arith)
 
   -- the last step of a way
-  last_step : (z : ℕ) (zs : List ℕ) (x : ℕ) → DependencyPath (LevelOn rows p) z zs x → LevelOn rows p z x ⊎ ((v : ℕ) × Depends (level rows p) z v × LevelOn rows p v x)
+  pub last_step : (z : ℕ) (zs : List ℕ) (x : ℕ) → DependencyPath (LevelOn rows p) z zs x → LevelOn rows p z x ⊎ ((v : ℕ) × Depends (level rows p) z v × LevelOn rows p v x)
   last_step z [] x on = inl on
   last_step z (w ∷ ws) x way = elim (last_step w ws x way.1) [
     | inl on ↦ inr (w, ([], way.0), on)

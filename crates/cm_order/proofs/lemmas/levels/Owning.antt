@@ -1,5 +1,5 @@
 -- Whether a row leads at its own level.
-use Rattle.std.proofs.Common.{◌≡◌, ℕ, ◌<◌, List, [], ◌∷◌, Bool, true, false, ◌&&◌, Option, Some, None, IsTrue, refl, sym, ◌∙◌, ap, inr, arith}
+use Rattle.std.proofs.Common.{◌≡◌, ℕ, ◌<◌, List, [], ◌∷◌, Bool, true, false, true≢false, ◌&&◌, Option, Some, None, is_none, IsTrue, refl, sym, ◌∙◌, ap, subst, inl, inr, arith}
 use Rattle.std.specs.Prelude.{◌↔◌}
 use Rattle.std.specs.List.{list_any}
 use Rattle.std.specs.Option.{option_map_or}
@@ -7,21 +7,29 @@ use Rattle.cm_facts.proofs.Booleans.{true_and_false, false_iff}
 use Rattle.cm_decl.specs.declared.decl.Decl.{Decl}
 use Rattle.cm_decl.specs.declared.rows.Usage.{Usage}
 use Rattle.cm_decl.specs.Graph.{is_strong, is_from_child, own_sources}
-use Rattle.cm_decl.specs.Reach.{DependencyPath}
+use Rattle.cm_decl.specs.Reach.{DependencyPath, Reaches, NoCycle}
+use Rattle.cm_decl.specs.RealmGraph.{Depends}
+use Rattle.cm_decl.proofs.lemmas.cycles.Reaching.{Reaches-trans}
 use Rattle.cm_world.specs.declared.row.Row.{Row}
-use Rattle.cm_world.specs.Rows.{decl_of, is_shut, is_subtree_shut}
-use Rattle.cm_world.specs.Level.{is_from_row, LevelStrong}
+use Rattle.cm_world.specs.Rows.{row_of, decl_of, is_shut, is_subtree_shut}
+use Rattle.cm_world.specs.Level.{is_from_row, level, LevelStrong}
+use Rattle.cm_world.specs.LevelInside.{LevelOn}
+use Rattle.cm_world.specs.RowsInside.{is_behind, child_behind}
+use Rattle.cm_trees.proofs.levels.Kids.{other_kids, no_kids}
 use Rattle.cm_world.specs.Sound.{IsSound}
-use Rattle.cm_world.specs.Stopping.{is_wholly_shut}
-use Rattle.cm_world.proofs.lemmas.trees.Levels.{edge_source}
+use Rattle.cm_world.specs.Stopping.{is_wholly_shut, IsFree}
+use Rattle.cm_world.proofs.lemmas.trees.Levels.{edge_source, node_row}
 use Rattle.cm_trees.specs.Kids.{IsKid}
-use Rattle.cm_order.specs.Search.{IsFreeAt}
-use Rattle.cm_order.specs.Glances.{AreKidsShut, HasKidLeft}
+use Rattle.cm_order.specs.Search.{IsFreeAt, IsNextLeading}
+use Rattle.cm_order.specs.declared.dependents.Dependents.{Dependents}
+use Rattle.cm_order.specs.Glances.{AreKidsShut, HasKidLeft, is_in_set, KnowsDependents}
 use Rattle.cm_trees.proofs.trees.Trees.{kid_higher}
-use Rattle.cm_order.proofs.lemmas.levels.Glancing.{free_by}
+use Rattle.cm_order.proofs.lemmas.levels.Glancing.{free_by, last_step}
+use Rattle.cm_order.proofs.lemmas.levels.Standing.{strong_way}
+use Rattle.cm_trees.proofs.names.Graphs.{direct_acyclic, follow}
 use Rattle.cm_order.proofs.lemmas.names.Sources.{any_from, next_none, own_all}
 use Rattle.cm_trees.proofs.levels.Shut.{own_shut, kid_shut}
-use Rattle.cm_trees.proofs.levels.Nodes.{kid_node}
+use Rattle.cm_trees.proofs.levels.Nodes.{kid_node, node_kid, direct_node, depends_node}
 
 -- what the declaration of a row says of its uses
 pub uses_by : (rows : List Row) (i : ℕ) (d : Decl) (uses : List Usage) (b : Bool) → Some d ≡ decl_of rows i → uses ≡ d.uses → b ≡ list_any (λ u. is_strong u.dependency && is_from_child u.from) uses → b ≡ option_map_or (λ d. list_any (λ u. is_strong u.dependency && is_from_child u.from) d.uses) (decl_of rows i) false
@@ -75,3 +83,110 @@ module _ (rows : List Row) (next : ℕ) (sound : IsSound rows next) (p : ℕ) wh
   -- A child that is shut with all below it may not be gone on to at its parent's level.
   pub kid_gone : (c : ℕ) → IsKid rows p c → is_subtree_shut rows c ≡ true → IsTrue false ↔ IsFreeAt rows p c
   kid_gone c kid shut = false_iff (λ it. true_and_false (is_wholly_shut rows p c) (kid_shut rows next sound.orderly p c kid ∙ shut) it.unshut)
+
+-- ---- a row itself, by its children
+
+module _ {N : Type 0} (On : N → N → Type 0) where
+  back_way : (x : N) (xs : List N) (y : N) → DependencyPath (λ x y. On y x) x xs y → Reaches On y x
+  back_way x [] y on = ([], on)
+  back_way x (z ∷ zs) y way = Reaches-trans On y z x (back_way z zs y way.1) ([], way.0)
+
+  back_acyclic : NoCycle On → NoCycle (λ x y. On y x)
+  back_acyclic acyclic (x, way) = acyclic (x, back_way x way.0 x way.1)
+
+module _ (rows : List Row) (next : ℕ) (sound : IsSound rows next) (p : ℕ) where
+  -- what depends on a row, where it depends on p, is shut
+  abbrev IsDone : ℕ → Type 0
+  IsDone x = Depends (level rows p) x p → IsFree rows p x × IsTrue (is_wholly_shut rows p x)
+
+  done_free : (x : ℕ) → ((w : ℕ) → LevelOn rows p w x → IsDone w) → Depends (level rows p) x p → IsFree rows p x
+  done_free x more on z way = elim (last_step rows next sound p z way.0 x way.1) [
+    | inl step ↦ (more z step (Reaches-trans (LevelOn rows p) z x p ([], step) on)).1
+    | inr rest ↦ (more rest.0 rest.2 (Reaches-trans (LevelOn rows p) rest.0 x p ([], rest.2) on)).0 z rest.1
+  ]
+
+  done_by : ((c : ℕ) → IsKid rows p c → Depends (level rows p) c p → IsFreeAt rows p c → ⊥) → (x : ℕ) → Depends (level rows p) x p → IsFree rows p x → (b : Bool) → is_wholly_shut rows p x ≡ b → IsTrue (is_wholly_shut rows p x)
+  done_by none x on free true shut = shut
+  done_by none x on free false unshut = elim (node_kid rows p x (depends_node rows p x p on)) [
+    | inl own ↦ absurd (direct_acyclic (level rows p) (sound.acyclic p) (p, subst (λ v. Depends (level rows p) v p) own on))
+    | inr kid ↦ absurd (none x kid on (record { free = free; unshut = unshut }))
+  ]
+
+  -- where no child that depends on it leads, all that depends on it is shut
+  pub own_free : ((c : ℕ) → IsKid rows p c → Depends (level rows p) c p → IsFreeAt rows p c → ⊥) → IsFree rows p p
+  own_free none z on =
+      let row : (r : Row) × (row_of rows z ≡ Some r) = node_row rows p z (depends_node rows p z p on) in
+      (follow rows (λ x w. LevelOn rows p w x) (λ x w step. node_row rows p w (direct_node rows p w x step)) (back_acyclic (LevelOn rows p) (direct_acyclic (level rows p) (sound.acyclic p))) IsDone
+      (λ x more on. let free : IsFree rows p x = done_free x more on in (free, done_by none x on free (is_wholly_shut rows p x) refl)) z row.0 row.1 on).1
+
+  implied_by : (c : ℕ) → IsKid rows p c → (Reaches (LevelStrong rows p) p c → ⊥) → Depends (level rows p) c p
+  implied_by c kid apart = (
+    [],
+    inr (record {
+      acyclic = sound.acyclic p;
+      node = kid_node rows p c kid;
+      child = λ same. (let higher : p < c = kid_higher rows next sound.orderly p c kid in absurd (omega arith));
+      apart = apart;
+      own = refl;
+    }),
+  )
+
+  -- a child that leads, on which it doesn't depend, binds it
+  pub own_bound_by : (c : ℕ) → IsKid rows p c → (Reaches (LevelStrong rows p) p c → ⊥) → is_wholly_shut rows p c ≡ false → IsFree rows p p → ⊥
+  own_bound_by c kid apart unshut free = true_and_false (is_wholly_shut rows p c) (free c (implied_by c kid apart)) unshut
+
+  -- where it isn't shut itself, each that leads does
+  pub own_bound_leads : (c : ℕ) → IsKid rows p c → IsFreeAt rows p c → is_shut rows p ≡ false → IsFree rows p p → ⊥
+  own_bound_leads c kid leads unshut =
+      own_bound_by c kid (λ way. true_and_false (is_wholly_shut rows p p) (leads.free p (strong_way rows next sound p p c way)) (own_shut rows p ∙ unshut)) leads.unshut
+
+  -- what p depends on doesn't depend on it
+  pub own_apart : (c : ℕ) → Reaches (LevelStrong rows p) p c → Depends (level rows p) c p → ⊥
+  own_apart c way on = direct_acyclic (level rows p) (sound.acyclic p) (c, Reaches-trans (LevelOn rows p) c p c on (strong_way rows next sound p p c way))
+
+  -- and isn't free before it
+  pub own_first : (c : ℕ) → Reaches (LevelStrong rows p) p c → IsFree rows p c → IsFree rows p p
+  own_first c way free z on = free z (Reaches-trans (LevelOn rows p) z p c on (strong_way rows next sound p p c way))
+
+  -- ---- by the lists
+
+  reached_in : (known : Dependents) → KnowsDependents rows p known → is_in_set known.cleared p ≡ false → (c : ℕ) → ((z : ℕ) → LevelStrong rows p z c → IsTrue (is_in_set known.cleared z)) → (x : ℕ) (xs : List ℕ) → DependencyPath (LevelStrong rows p) x xs c → IsTrue (is_in_set known.cleared x)
+  reached_in known is left c clients x [] on = clients x on
+  reached_in known is left c clients x (w ∷ ws) way =
+      let there : IsTrue (is_in_set known.cleared w) = reached_in known is left c clients w ws way.1 in
+      is.closed x w (λ own. true_and_false (is_in_set known.cleared w) there (ap (is_in_set known.cleared) own ∙ left)) way.0 there
+
+  -- a child whose clients are all cleared, where p isn't, is one on which p doesn't depend
+  pub unreached : (known : Dependents) → KnowsDependents rows p known → is_in_set known.cleared p ≡ false → (c : ℕ) → ((z : ℕ) → LevelStrong rows p z c → IsTrue (is_in_set known.cleared z)) → Reaches (LevelStrong rows p) p c → ⊥
+  unreached known is left c clients way = true_and_false (is_in_set known.cleared p) (reached_in known is left c clients p way.0 way.1) left
+
+-- ---- child after child
+
+-- no child so far leads and depends on p
+abbrev pub NoneBinds : List Row → ℕ → Option ℕ → Type 0
+NoneBinds rows p behind = (c : ℕ) → IsKid rows p c → Depends (level rows p) c p → IsFreeAt rows p c → IsTrue (is_behind behind c)
+
+pub none_binds_first : (rows : List Row) (p : ℕ) → NoneBinds rows p None
+none_binds_first rows p c kid on leads = refl
+
+module _ (rows : List Row) (next : ℕ) (sound : IsSound rows next) (p : ℕ) where
+  pub none_binds_more : (c : ℕ) (behind : Option ℕ) → NoneBinds rows p behind → Some c ≡ child_behind rows p behind → (Depends (level rows p) c p → IsFreeAt rows p c → ⊥) → NoneBinds rows p (Some c)
+  none_binds_more c behind so_far found none i kid on leads = elim (other_kids rows next sound.orderly p behind c i (sym found) kid (so_far i kid on leads)) [
+    | inl same ↦ absurd (none (subst (λ z. Depends (level rows p) z p) same on) (subst (IsFreeAt rows p) same leads))
+    | inr later ↦ later
+  ]
+
+  pub none_binds_ends : (behind : Option ℕ) → NoneBinds rows p behind → None ≡ child_behind rows p behind → IsFree rows p p
+  none_binds_ends behind so_far none =
+      own_free rows next sound p (λ c kid on leads. no_kids rows p behind c (sym none) kid (so_far c kid on leads))
+
+  -- where it isn't shut, it leads where no child does
+  pub own_leads_by : (o : Option ℕ) (none : Bool) → is_shut rows p ≡ false → IsNextLeading rows p None o → none ≡ is_none o → IsTrue none ↔ IsFreeAt rows p p
+  own_leads_by None none unshut first is = (
+    λ told. record { free = own_free rows next sound p (λ c kid on leads. first c kid refl leads); unshut = own_shut rows p ∙ unshut },
+    λ it. is,
+  )
+  own_leads_by (Some c) none unshut first is = (
+    λ told. absurd (true≢false (sym told ∙ is)),
+    λ it. absurd (own_bound_leads rows next sound p c first.kid first.leads unshut it.free),
+  )

@@ -12,7 +12,6 @@ loop-spot-init g c =
       subst (IsSearching (g.V.View.rows c.args.view.now) c.args.top c.args.wanted) (sym (alone c.new-left.result.items c.push.new.self.items (under c.args.top) c.new-left.ensures.items c.in_ok-push.ensures.items))
           (searching_first (g.V.View.rows c.args.view.now) (g.V.View.next_inc c.args.view.now) c.requires.sound.orderly c.args.wanted c.args.top c.requires.top row.0 row.1),
       c.requires.levels,
-      tt,
     )
 
 pub returns-in-Here-clause-found : goal.returns-in-Here-clause-found
@@ -29,7 +28,6 @@ pub loop-spot-preserved : goal.loop-spot-preserved
 loop-spot-preserved g c = (
   searching_on (g.V.View.rows c.args.view.now) (g.V.View.next_inc c.args.view.now) c.requires.sound.orderly c.args.wanted c.args.top c.loop-spot.left.items c.pop.new.self.items c.go_on.new.left.items c.in-Some.spot c.in-Below.child c.loop-spot.invariant.0 c.in-Some.ensures.items c.in_ok-go_on-in-Below.ensures (subst (IsVisit (g.V.View.rows c.args.view.now) c.args.wanted c.in-Some.spot) c.in-Below.is c.in_ok-look_at.ensures.visit),
   c.in_ok-look_at.ensures.levels,
-  c.in_ok-look_at.ensures.kept,
 )
 
 pub returns-clause-found : goal.returns-clause-found
