@@ -87,10 +87,12 @@ module _ (rows : List Row) (next : ℕ) (sound : IsSound rows next) (p : ℕ) wh
 -- ---- a row itself, by its children
 
 module _ {N : Type 0} (On : N → N → Type 0) where
+  -- A path by turned edges is a way back by the edges themselves.
   back_way : (x : N) (xs : List N) (y : N) → DependencyPath (λ x y. On y x) x xs y → Reaches On y x
   back_way x [] y on = ([], on)
   back_way x (z ∷ zs) y way = Reaches-trans On y z x (back_way z zs y way.1) ([], way.0)
 
+  -- Where no node leads back to itself, none does by turned edges.
   back_acyclic : NoCycle On → NoCycle (λ x y. On y x)
   back_acyclic acyclic (x, way) = acyclic (x, back_way x way.0 x way.1)
 
@@ -99,12 +101,14 @@ module _ (rows : List Row) (next : ℕ) (sound : IsSound rows next) (p : ℕ) wh
   abbrev IsDone : ℕ → Type 0
   IsDone x = Depends (level rows p) x p → IsFree rows p x × IsTrue (is_wholly_shut rows p x)
 
+  -- Where each node that depends directly on a row is free and shut, if it depends on p, the row is free.
   done_free : (x : ℕ) → ((w : ℕ) → LevelOn rows p w x → IsDone w) → Depends (level rows p) x p → IsFree rows p x
   done_free x more on z way = elim (last_step rows next sound p z way.0 x way.1) [
     | inl step ↦ (more z step (Reaches-trans (LevelOn rows p) z x p ([], step) on)).1
     | inr rest ↦ (more rest.0 rest.2 (Reaches-trans (LevelOn rows p) rest.0 x p ([], rest.2) on)).0 z rest.1
   ]
 
+  -- A free row that depends on p is wholly shut, where no child that depends on p leads.
   done_by : ((c : ℕ) → IsKid rows p c → Depends (level rows p) c p → IsFreeAt rows p c → ⊥) → (x : ℕ) → Depends (level rows p) x p → IsFree rows p x → (b : Bool) → is_wholly_shut rows p x ≡ b → IsTrue (is_wholly_shut rows p x)
   done_by none x on free true shut = shut
   done_by none x on free false unshut = elim (node_kid rows p x (depends_node rows p x p on)) [
@@ -119,6 +123,7 @@ module _ (rows : List Row) (next : ℕ) (sound : IsSound rows next) (p : ℕ) wh
       (follow rows (λ x w. LevelOn rows p w x) (λ x w step. node_row rows p w (direct_node rows p w x step)) (back_acyclic (LevelOn rows p) (direct_acyclic (level rows p) (sound.acyclic p))) IsDone
       (λ x more on. let free : IsFree rows p x = done_free x more on in (free, done_by none x on free (is_wholly_shut rows p x) refl)) z row.0 row.1 on).1
 
+  -- A child on which p doesn't strongly depend depends on p.
   implied_by : (c : ℕ) → IsKid rows p c → (Reaches (LevelStrong rows p) p c → ⊥) → Depends (level rows p) c p
   implied_by c kid apart = (
     [],
@@ -150,6 +155,7 @@ module _ (rows : List Row) (next : ℕ) (sound : IsSound rows next) (p : ℕ) wh
 
   -- ---- by the lists
 
+  -- What strongly leads to a row whose clients are cleared is cleared, where p isn't.
   reached_in : (known : Dependents) → KnowsDependents rows p known → is_in_set known.cleared p ≡ false → (c : ℕ) → ((z : ℕ) → LevelStrong rows p z c → IsTrue (is_in_set known.cleared z)) → (x : ℕ) (xs : List ℕ) → DependencyPath (LevelStrong rows p) x xs c → IsTrue (is_in_set known.cleared x)
   reached_in known is left c clients x [] on = clients x on
   reached_in known is left c clients x (w ∷ ws) way =
@@ -166,16 +172,19 @@ module _ (rows : List Row) (next : ℕ) (sound : IsSound rows next) (p : ℕ) wh
 abbrev pub NoneBinds : List Row → ℕ → Option ℕ → Type 0
 NoneBinds rows p behind = (c : ℕ) → IsKid rows p c → Depends (level rows p) c p → IsFreeAt rows p c → IsTrue (is_behind behind c)
 
+-- Before any child was looked at, each is still to come.
 pub none_binds_first : (rows : List Row) (p : ℕ) → NoneBinds rows p None
 none_binds_first rows p c kid on leads = refl
 
 module _ (rows : List Row) (next : ℕ) (sound : IsSound rows next) (p : ℕ) where
+  -- Where the next child doesn't bind p, those that may are still to come behind it.
   pub none_binds_more : (c : ℕ) (behind : Option ℕ) → NoneBinds rows p behind → Some c ≡ child_behind rows p behind → (Depends (level rows p) c p → IsFreeAt rows p c → ⊥) → NoneBinds rows p (Some c)
   none_binds_more c behind so_far found none i kid on leads = elim (other_kids rows next sound.orderly p behind c i (sym found) kid (so_far i kid on leads)) [
     | inl same ↦ absurd (none (subst (λ z. Depends (level rows p) z p) same on) (subst (IsFreeAt rows p) same leads))
     | inr later ↦ later
   ]
 
+  -- Where no child is left and none binds p, p is free.
   pub none_binds_ends : (behind : Option ℕ) → NoneBinds rows p behind → None ≡ child_behind rows p behind → IsFree rows p p
   none_binds_ends behind so_far none =
       own_free rows next sound p (λ c kid on leads. no_kids rows p behind c (sym none) kid (so_far c kid on leads))

@@ -37,10 +37,12 @@ use Rattle.cm_order.proofs.lemmas.levels.Binding.{any_to, from_given, from_offer
 
 -- ---- empty maps
 
+-- Nothing is in the list of a name in an empty map.
 pub none_offered : (offered : BTreeMap (List ℕ) (List ℕ)) → offered.entries ≡ [] → (name : List ℕ) (x : ℕ) → IsTrue (is_offered offered name x) → ⊥
 none_offered offered empty name x there =
     never (subst (λ es. IsTrue (is_in_list (unwrap_or (lookup (is_at (slice_cmp nat_cmp name)) es) []) x)) empty there)
 
+-- Nothing is in a list of an empty map, so all that is strongly depends.
 pub none_listed : (rows : List Row) (p : ℕ) (clients : BTreeMap ℕ (List ℕ)) → clients.entries ≡ [] → AreClients rows p clients
 none_listed rows p clients empty x z there =
     never (subst (λ es. IsTrue (is_in_list (unwrap_or (lookup (is_at (nat_cmp x)) es) []) z)) empty there)
@@ -52,14 +54,17 @@ abbrev pub AddsStrong : {A : Type 0} → List Row → ℕ → (ℕ → A → Boo
 AddsStrong rows p comes_from xs w old new = AreStrong rows p comes_from xs w → AreClients rows p old → AreClients rows p new
 
 module _ {A : Type 0} (rows : List Row) (p : ℕ) (comes_from : ℕ → A → Bool) (xs : List A) (w : ℕ) where
+  -- Before any item is looked at the lists are as they were.
   pub adding_first : (old : BTreeMap ℕ (List ℕ)) → AddsStrong rows p comes_from (take 0 xs) w old old
   adding_first old strong are = are
 
+  -- Where for the next item only clients are put, only clients are put for one item more.
   pub adding_more : (i : ℕ) (item : A) (first old new : BTreeMap ℕ (List ℕ)) → i < length xs → item ≡ get_or xs i item → AddsStrong rows p comes_from (take i xs) w first old → (((x : ℕ) → IsTrue (comes_from x item) → LevelStrong rows p w x) → AreClients rows p old → AreClients rows p new) → AddsStrong rows p comes_from (take (i + 1) xs) w first new
   adding_more i item first old new low at so_far real strong are =
       real (λ x comes. strong x (list_any_more (comes_from x) xs i item low ∙ or_right (list_any (comes_from x) (take i xs)) (comes_from x (get_or xs i item)) (subst (λ z. IsTrue (comes_from x z)) at comes)))
       (so_far (λ x any. strong x (list_any_more (comes_from x) xs i item low ∙ or_left (list_any (comes_from x) (take i xs)) (comes_from x (get_or xs i item)) any)) are)
 
+  -- Where all items were looked at, only clients were put.
   pub adding_ends : (i : ℕ) (first new : BTreeMap ℕ (List ℕ)) → length xs ≤ i → AddsStrong rows p comes_from (take i xs) w first new → AddsStrong rows p comes_from xs w first new
   adding_ends i first new long so_far = subst (λ l. AddsStrong rows p comes_from l w first new) (take_all i xs long) so_far
 
@@ -69,9 +74,11 @@ AddsOffered rows p offers old new =
     (name : List ℕ) (x : ℕ) → IsTrue (is_offered new name x) → IsTrue (is_offered old name x) ⊎ IsTrue (list_any (is_offered_from rows p name x) offers)
 
 module _ (rows : List Row) (p : ℕ) (offers : List Offer) where
+  -- Before any offer is looked at the lists of names are as they were.
   pub offers_first : (old : BTreeMap (List ℕ) (List ℕ)) → AddsOffered rows p (take 0 offers) old old
   offers_first old name x there = inl there
 
+  -- Where for the next offer only what it comes from is put, that is so of one offer more.
   pub offers_more : (i : ℕ) (item : Offer) (first old new : BTreeMap (List ℕ) (List ℕ)) → i < length offers → item ≡ get_or offers i item → AddsOffered rows p (take i offers) first old → ((name : List ℕ) (x : ℕ) → IsTrue (is_offered new name x) → IsTrue (is_offered old name x) ⊎ IsTrue (is_offered_from rows p name x item)) → AddsOffered rows p (take (i + 1) offers) first new
   offers_more i item first old new low at so_far real name x there = elim (real name x there) [
     | inl before ↦ (elim (so_far name x before) [
@@ -81,26 +88,31 @@ module _ (rows : List Row) (p : ℕ) (offers : List Offer) where
     | inr comes ↦ inr (list_any_more (is_offered_from rows p name x) offers i item low ∙ or_right (list_any (is_offered_from rows p name x) (take i offers)) (is_offered_from rows p name x (get_or offers i item)) (subst (λ z. IsTrue (is_offered_from rows p name x z)) at comes))
   ]
 
+  -- Where all offers were looked at, names have only what was there or what these come from.
   pub offers_end : (i : ℕ) (first new : BTreeMap (List ℕ) (List ℕ)) → length offers ≤ i → AddsOffered rows p (take i offers) first new → AddsOffered rows p offers first new
   offers_end i first new long so_far = subst (λ l. AddsOffered rows p l first new) (take_all i offers long) so_far
 
 -- ---- what is so of a row
 
+-- What is there has a value.
 some_of : {A : Type 0} (o : Option A) → IsSome o → (x : A) × (o ≡ Some x)
 some_of None e = absurd (true≢false (sym e))
 some_of (Some x) e = (x, refl)
 
+-- A row that has a declaration is there.
 live_by : (o : Option Row) (d : Decl) → option_and_then (λ r. r.decl) o ≡ Some d → IsTrue (is_some o)
 live_by None d e = absurd (true≢false (sym (ap is_some e)))
 live_by (Some r) d e = refl
 
 module _ (rows : List Row) (next : ℕ) (sound : IsSound rows next) (p : ℕ) where
+  -- The parent of a child has a declaration.
   some_decl : (c : ℕ) → IsKid rows p c → (d : Decl) × (decl_of rows p ≡ Some d)
   some_decl c kid =
       let parent : IsParent rows p c = parent_lives rows next sound.orderly p c kid in
       let d : (d : Decl) × (parent.row.decl ≡ Some d) = some_of parent.row.decl parent.resolved in
       (d.0, ap (option_and_then (λ r. r.decl)) parent.lives ∙ d.1)
 
+  -- A child has a name.
   some_name : (c : ℕ) → IsKid rows p c → (n : ChildName) × (name_of rows c ≡ Some n)
   some_name c kid =
       let n : (n : ChildName) × (kid.row.name ≡ Some n) = some_of kid.row.name (sound.orderly.parents c p kid.row kid.lives kid.parent).1 in
@@ -108,10 +120,12 @@ module _ (rows : List Row) (next : ℕ) (sound : IsSound rows next) (p : ℕ) wh
 
   -- ---- nodes
 
+  -- A row that has a declaration is a node of its own level.
   own_node : (d : Decl) → decl_of rows p ≡ Some d → IsTrue (is_level_node rows p p)
   own_node d found =
       or_left (p == p && is_live rows p) (is_child_row rows p p) (and_pair (p == p) (is_live rows p) (eq_self p) (live_by (row_of rows p) d found))
 
+  -- A row that is a source at the level of p is a node there.
   source_node : (d : Decl) → decl_of rows p ≡ Some d → (x : ℕ) (s : Origin) → IsTrue (is_from_row rows p x s) → IsTrue (is_level_node rows p x)
   source_node d found x origin.Own own = subst (λ y. IsTrue (is_level_node rows p y)) (sym ((unsigned_Decides x p).0 own)) (own_node d found)
   source_node d found x (origin.Child c) is = kid_node rows p x (found_kid rows next sound.orderly p c x (option_eq_some (child_of rows p c) x is)).kid
@@ -119,6 +133,7 @@ module _ (rows : List Row) (next : ℕ) (sound : IsSound rows next) (p : ℕ) wh
   source_node d found x origin.Framework is = never is
   source_node d found x origin.Void is = never is
 
+  -- A row from which a give comes is a node of the level.
   given_node : (d : Decl) → decl_of rows p ≡ Some d → (x : ℕ) (g : Give) → IsTrue (is_given_from rows p x g) → IsTrue (is_level_node rows p x)
   given_node d found x g comes = source_node d found x g.from (second_so (is_strong g.dependency) (is_from_row rows p x g.from) comes)
 

@@ -38,6 +38,7 @@ use Rattle.cm_order.proofs.lemmas.levels.Clearing.{set_on}
 
 -- ---- lists
 
+-- What holds of each item of a list holds of a row that is in it.
 each_in : (P : ℕ → Type 0) (xs : List ℕ) (x : ℕ) → EachOfList P xs → IsTrue (is_in_list xs x) → P x
 each_in P [] x all there = never there
 each_in P (y ∷ ys) x all there = elim (or_cases (y == x) (is_in_list ys x) there) [
@@ -45,11 +46,13 @@ each_in P (y ∷ ys) x all there = elim (or_cases (y == x) (is_in_list ys x) the
   | inr later ↦ each_in P ys x all.1 later
 ]
 
+-- Where each item has a property that brings another, each has the other.
 each_to : (P Q : ℕ → Type 0) → ((x : ℕ) → P x → Q x) → (xs : List ℕ) → EachOfList P xs → EachOfList Q xs
 each_to P Q f [] all = tt
 each_to P Q f (x ∷ xs) all = (f x all.0, each_to P Q f xs all.1)
 
 module _ (R : ℕ → ℕ → Type 0) where
+  -- In a list that is ordered in pairs, what comes before the last is, and each of it stands to the last.
   pub pairs_split : (xs : List ℕ) (y : ℕ) → Pairwise R (xs ++ y ∷ []) → Pairwise R xs × EachOfList (λ x. R x y) xs
   pairs_split [] y all = (tt, tt)
   pairs_split (x ∷ xs) y all =
@@ -57,24 +60,29 @@ module _ (R : ℕ → ℕ → Type 0) where
       let own : EachOfList (R x) xs × EachOfList (R x) (y ∷ []) = each_split (R x) xs (y ∷ []) all.0 in
       ((own.0, rest.0), (own.1.0, rest.1))
 
+  -- A list that is ordered in pairs stays so with one more item to which each stands.
   pub pairs_join : (xs : List ℕ) (y : ℕ) → Pairwise R xs → EachOfList (λ x. R x y) xs → Pairwise R (xs ++ y ∷ [])
   pairs_join [] y all each = (tt, tt)
   pairs_join (x ∷ xs) y all each = (each_join (R x) xs (y ∷ []) all.0 (each.0, tt), pairs_join xs y all.1 each.1)
 
+-- What begins a list begins it with more at its end.
 begins_more : (c : ℕ) (xs ys : List ℕ) → BeginsWith c xs → BeginsWith c (xs ++ ys)
 begins_more c [] ys it = absurd it
 begins_more c (x ∷ xs) ys it = it
 
+-- What begins a list with a last item begins what is before that, where something is.
 begins_left : (c : ℕ) (xs : List ℕ) (y : ℕ) (b : Bool) → IsTrue b ↔ (xs ≡ []) → b ≡ false → BeginsWith c (xs ++ y ∷ []) → BeginsWith c xs
 begins_left c [] y b answers none it = absurd (true_and_false b (answers.1 refl) none)
 begins_left c (x ∷ xs) y b answers none it = it
 
+-- What holds of each item holds of the one that begins the list.
 begins_first : (P : ℕ → Type 0) (c : ℕ) (xs : List ℕ) → BeginsWith c xs → EachOfList P xs → P c
 begins_first P c [] it all = absurd it
 begins_first P c (x ∷ xs) it all = subst P it all.0
 
 -- ---- how many pass
 
+-- Where each row that passes one test passes another, no more pass the first.
 counted_le : (q t : Row → Bool) (rows : List Row) → ((s : Row) → IsTrue (q s) → IsTrue (t s)) → length (filter q rows) ≤ length (filter t rows)
 counted_le q t [] more = omega arith
 counted_le q t (x ∷ xs) more = by (q x) (t x) refl refl (counted_le q t xs more) where
@@ -84,6 +92,7 @@ counted_le q t (x ∷ xs) more = by (q x) (t x) refl refl (counted_le q t xs mor
   by false true e f rest = rw (e, f) (omega arith)
   by false false e f rest = rw (e, f) rest
 
+-- Where besides one row passes the second test alone, fewer pass the first.
 counted_less : (q t : Row → Bool) (rows : List Row) (i : ℕ) (r : Row) → ((s : Row) → IsTrue (q s) → IsTrue (t s)) → row_of rows i ≡ Some r → q r ≡ false → IsTrue (t r) → length (filter q rows) < length (filter t rows)
 counted_less q t [] i r more lives out in_it = absurd (none_some r lives)
 counted_less q t (x ∷ xs) i r more lives out in_it = by (x.inc == i) (q x) (t x) refl refl refl (λ later. counted_less q t xs i r more later out in_it) where
@@ -99,34 +108,41 @@ counted_less q t (x ∷ xs) i r more lives out in_it = by (x.inc == i) (q x) (t 
   by false false true is e f rest = let fewer : length (filter q xs) < length (filter t xs) = rest (rw is at lives) in rw (e, f) (omega arith)
   by false false false is e f rest = rw (e, f) (rest (rw is at lives))
 
+-- Two flags that are both unset are neither.
 neither : (a b : Bool) → a ≡ false → b ≡ false → IsTrue (not a && not b)
 neither false false e f = refl
 neither true b e f = absurd (true≢false e)
 neither false true e f = absurd (true≢false f)
 
+-- Where neither flag is set, the first isn't.
 not_first : (a b : Bool) → IsTrue (not a && not b) → a ≡ false
 not_first false b h = refl
 not_first true b h = never h
 
+-- Where neither flag is set, the second isn't.
 not_second : (a b : Bool) → IsTrue (not a && not b) → b ≡ false
 not_second false false h = refl
 not_second false true h = never h
 not_second true b h = never h
 
+-- Where the second flag is set, not neither is.
 either_out : (a b : Bool) → IsTrue b → (not a && not b) ≡ false
 either_out true b e = refl
 either_out false true e = refl
 either_out false false e = absurd (true≢false (sym e))
 
+-- One fewer counted twice is less than one more on the way.
 up_less : (l k n m : ℕ) → l < k → m ≡ n + 1 → l + l + m < k + k + n
 up_less l k n m less long = omega arith
 
+-- One less on the way is less, where no more are counted.
 back_less : (l k n m : ℕ) → l ≤ k → n ≡ m + 1 → l + l + m < k + k + n
 back_less l k n m less long = omega arith
 
 -- ---- a way up
 
 module _ (rows : List Row) (next : ℕ) (sound : IsSound rows next) (p : ℕ) where
+  -- A path of strong edges is one of edges of the level.
   on_way : (x : ℕ) (xs : List ℕ) (y : ℕ) → DependencyPath (LevelStrong rows p) x xs y → DependencyPath (LevelOn rows p) x xs y
   on_way x [] y on = inl on
   on_way x (z ∷ zs) y way = (inl way.0, on_way z zs y way.1)
@@ -135,10 +151,12 @@ module _ (rows : List Row) (next : ℕ) (sound : IsSound rows next) (p : ℕ) wh
   pub strong_way : (x y : ℕ) → Reaches (LevelStrong rows p) x y → Depends (level rows p) x y
   strong_way x y way = (way.0, on_way x way.0 y way.1)
 
+  -- What strongly depends on a row of the way strongly depends on the child, if through others.
   step_up : (z x c : ℕ) → LevelStrong rows p z x → (x ≡ c) ⊎ (Reaches (LevelStrong rows p) x c × IsTrue (is_wholly_shut rows p x)) → Reaches (LevelStrong rows p) z c
   step_up z x c strong (inl same) = ([], subst (LevelStrong rows p z) same strong)
   step_up z x c strong (inr up) = (x ∷ up.0.0, (strong, up.0.1))
 
+  -- The last row of a way is one that may stand there.
   pub climb_last : (c : ℕ) (ws : List ℕ) (x : ℕ) → IsClimb rows p c (ws ++ x ∷ []) → IsOnClimb rows p c x
   climb_last c ws x climb = (each_split (IsOnClimb rows p c) ws (x ∷ []) climb.each).1.0
 
@@ -155,6 +173,7 @@ module _ (rows : List Row) (next : ℕ) (sound : IsSound rows next) (p : ℕ) wh
     left = own.left;
   }
 
+  -- A child of a row isn't that row.
   kid_apart : (c : ℕ) → IsKid rows p c → c ≢ p
   kid_apart c kid = λ same. let higher : p < c = kid_higher rows next sound.orderly p c kid in absurd (omega arith)
 
@@ -168,6 +187,7 @@ module _ (rows : List Row) (next : ℕ) (sound : IsSound rows next) (p : ℕ) wh
     ];
   }
 
+  -- Where the child alone is on the way and has no client, it is free.
   pub climb_free : (known : Dependents) (c : ℕ) (ws : List ℕ) (x : ℕ) → KnowsDependents rows p known → IsClimb rows p c (ws ++ x ∷ []) → ws ≡ [] → HasNoClient known x → IsFreeByLists rows p c known
   climb_free known c ws x is climb alone none =
       let same : x ≡ c = subst (λ l. BeginsWith c (l ++ x ∷ [])) alone climb.begins in
@@ -175,12 +195,14 @@ module _ (rows : List Row) (next : ℕ) (sound : IsSound rows next) (p : ℕ) wh
 
   -- ---- one up
 
+  -- What strongly depends on the last row of a way leads to each row of it.
   climb_out : (c : ℕ) (ws : List ℕ) (x z : ℕ) → IsClimb rows p c (ws ++ x ∷ []) → LevelStrong rows p z x → EachOfList (λ w. Reaches (LevelStrong rows p) z w) (ws ++ x ∷ [])
   climb_out c ws x z climb strong =
       each_join (λ w. Reaches (LevelStrong rows p) z w) ws (x ∷ [])
       (each_to (λ w. Reaches (LevelStrong rows p) x w) (λ w. Reaches (LevelStrong rows p) z w) (λ w way. (x ∷ way.0, (strong, way.1))) ws (pairs_split (λ x y. Reaches (LevelStrong rows p) y x) ws x climb.order).1)
       (([], strong), tt)
 
+  -- A wholly shut child that strongly depends on the last row of a way goes on it.
   pub climb_up : (c : ℕ) (ws : List ℕ) (x z : ℕ) (known : Dependents) → IsClimb rows p c (ws ++ x ∷ []) → IsKidAbove rows p x z known → IsClimb rows p c ((ws ++ x ∷ []) ++ z ∷ [])
   climb_up c ws x z known climb above = record {
     begins = begins_more c (ws ++ x ∷ []) (z ∷ []) climb.begins;
@@ -189,6 +211,7 @@ module _ (rows : List Row) (next : ℕ) (sound : IsSound rows next) (p : ℕ) wh
     order = pairs_join (λ x y. Reaches (LevelStrong rows p) y x) (ws ++ x ∷ []) z climb.order (climb_out c ws x z climb above.strong);
   }
 
+  -- With one more child on the way there is less to do.
   pub up_falls : (c : ℕ) (ws : List ℕ) (x z : ℕ) (known : Dependents) → IsClimb rows p c (ws ++ x ∷ []) → IsKidAbove rows p x z known → effort rows known.cleared ((ws ++ x ∷ []) ++ z ∷ []) < effort rows known.cleared (ws ++ x ∷ [])
   up_falls c ws x z known climb above =
       let old : List ℕ = ws ++ x ∷ [] in
@@ -213,6 +236,7 @@ module _ (rows : List Row) (next : ℕ) (sound : IsSound rows next) (p : ℕ) wh
     | inr up ↦ up.1
   ]
 
+  -- A way without its last row is a way, where something is left.
   pub climb_back : (c : ℕ) (ws : List ℕ) (x : ℕ) (b : Bool) → IsClimb rows p c (ws ++ x ∷ []) → IsTrue b ↔ (ws ≡ []) → b ≡ false → IsClimb rows p c ws
   climb_back c ws x b climb answers some = record {
     begins = begins_left c ws x b answers some climb.begins;
@@ -220,6 +244,7 @@ module _ (rows : List Row) (next : ℕ) (sound : IsSound rows next) (p : ℕ) wh
     order = (pairs_split (λ x y. Reaches (LevelStrong rows p) y x) ws x climb.order).0;
   }
 
+  -- A way begins as the child alone.
   pub climb_first : (c : ℕ) (ws : List ℕ) → IsKid rows p c → ws ≡ c ∷ [] → IsClimb rows p c ws
   climb_first c ws kid same = subst (IsClimb rows p c) (sym same) (record {
     begins = refl;
@@ -227,6 +252,7 @@ module _ (rows : List Row) (next : ℕ) (sound : IsSound rows next) (p : ℕ) wh
     order = (tt, tt);
   })
 
+-- With the last row of the way taken and cleared there is less to do.
 pub back_falls : (rows : List Row) (ws : List ℕ) (x : ℕ) (old new : BTreeSet ℕ) → IsTrue (is_in_set new x) → ((z : ℕ) → is_in_set new z ≡ cond (is_at (nat_cmp x) z) true (is_in_set old z)) → effort rows new ws < effort rows old (ws ++ x ∷ [])
 back_falls rows ws x old new here more =
     let fewer : length (filter (λ r. not (is_in_set new r.inc) && not (is_in_list ws r.inc)) rows) ≤ length (filter (λ r. not (is_in_set old r.inc) && not (is_in_list (ws ++ x ∷ []) r.inc)) rows) =
@@ -243,12 +269,14 @@ back_falls rows ws x old new here more =
 
 -- ---- one look
 
+-- What strongly depends on a row and isn't p itself is a child.
 seen_node : (rows : List Row) (p z x : ℕ) → LevelStrong rows p z x → (z ≡ p → ⊥) → IsKid rows p z
 seen_node rows p z x strong apart = elim (node_kid rows p z (edge_node rows p z x strong)) [
   | inl own ↦ absurd (apart own)
   | inr kid ↦ kid
 ]
 
+-- What is seen of the last client of a row is what the list of the row says.
 pub look_told : (rows : List Row) (p x z : ℕ) (known : Dependents) (look : ClientLook) → KnowsDependents rows p known → IsClientLeft known x (Some z) → IsSeen rows p z look → IsLook rows p x known look
 look_told rows p x z known look.NoClient is client seen = absurd seen
 look_told rows p x z known look.Unshut is client seen = record { inc = z; strong = is.strong x z client.0; unshut = seen }
@@ -264,6 +292,7 @@ look_told rows p x z known (look.Shut y) is client seen = subst (λ y. IsKidAbov
   left = client.1;
 })
 
+-- A row that isn't p is wholly shut where it is shut with all below it.
 pub kid_wholly : (rows : List Row) (p z : ℕ) → (z == p) ≡ false → is_wholly_shut rows p z ≡ is_subtree_shut rows z
 kid_wholly rows p z e = rw e refl
 
