@@ -11,8 +11,8 @@ use Rattle.cm_world.specs.Level.{level, LevelStrong}
 use Rattle.cm_world.specs.Stopping.{is_wholly_shut, IsFree}
 use Rattle.cm_order.specs.declared.dependents.Dependents.{Dependents}
 use Rattle.cm_order.specs.declared.clearing.ListEnd.{ListEnd}
-use Rattle.cm_order.specs.declared.standing.Standing.{Standing}
-use Rattle.cm_order.specs.declared.standing.Standing.TheVariants.{Free, Bound, ByOwn}
+use Rattle.cm_order.specs.declared.standing.ChildStanding.{ChildStanding}
+use Rattle.cm_order.specs.declared.standing.ChildStanding.TheVariants.{Free, Bound, ByOwn}
 use Rattle.cm_order.specs.declared.standing.ClientLook.{ClientLook}
 use Rattle.cm_order.specs.declared.standing.ClientLook.TheVariants as look
 use Rattle.cm_trees.specs.Kids.{IsKid}
@@ -57,10 +57,10 @@ pub record IsFreeByLists (rows : List Row) (p x : ℕ) (known : Dependents) : Ty
   pub free : IsFree rows p x
   pub clients : (z : ℕ) → LevelStrong rows p z x → IsTrue (is_in_set known.cleared z)
 
-abbrev pub IsStanding : List Row → ℕ → ℕ → Dependents → Standing → Type 0
-IsStanding rows p x known Free = IsFreeByLists rows p x known
-IsStanding rows p x known Bound = IsFree rows p x → ⊥
-IsStanding rows p x known ByOwn = IsByOwn rows p x known
+abbrev pub IsChildStanding : List Row → ℕ → ℕ → Dependents → ChildStanding → Type 0
+IsChildStanding rows p x known Free = IsFreeByLists rows p x known
+IsChildStanding rows p x known Bound = IsFree rows p x → ⊥
+IsChildStanding rows p x known ByOwn = IsByOwn rows p x known
 
 -- ---- one look
 
@@ -117,10 +117,11 @@ effort rows cleared way =
     + length (filter (λ r. not (is_in_set cleared r.inc) && not (is_in_list way r.inc)) rows) + length way
 
 -- one step of the way: how the child stands, or a way on which there is less to do
-abbrev pub IsClimbed : List Row → ℕ → ℕ → BTreeSet ℕ → List ℕ → Dependents → List ℕ → Option Standing → Type 0
+abbrev pub IsClimbed : List Row → ℕ → ℕ → BTreeSet ℕ → List ℕ → Dependents → List ℕ
+    → Option ChildStanding → Type 0
 IsClimbed rows p c cleared old known new None =
     IsClimb rows p c new × (effort rows known.cleared new < effort rows cleared old)
-IsClimbed rows p c cleared old known new (Some standing) = IsStanding rows p c known standing
+IsClimbed rows p c cleared old known new (Some standing) = IsChildStanding rows p c known standing
 
 -- what is seen of a row that is in a list: how it is shut, and whether it is p itself
 abbrev pub IsSeen : List Row → ℕ → ℕ → ClientLook → Type 0

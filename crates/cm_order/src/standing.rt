@@ -8,7 +8,7 @@ ghost use Rattle.cm_world.specs.Sound.{IsSound};
 ghost use Rattle.cm_world.specs.Stopping.{IsFree};
 ghost use Rattle.cm_trees.specs.Kids.{IsKid};
 ghost use Rattle.cm_order.specs.Glances.{is_in_set, KnowsDependents};
-ghost use Rattle.cm_order.specs.Standing.{HasNoClient, IsByOwn, IsStanding};
+ghost use Rattle.cm_order.specs.Standing.{HasNoClient, IsByOwn, IsChildStanding};
 ghost use Rattle.cm_order.specs.Standing.{IsLook, IsSeen, IsClimb, IsClimbed, IsOwnBinding};
 
 use crate::below::all_shut;
@@ -21,7 +21,7 @@ use std::alloc::Global;
 
 /// How a child stands at its level.
 #[derive(Debug, Clone, Copy)]
-pub(crate) enum Standing {
+pub(crate) enum ChildStanding {
     /// All that depends on it is shut, and known to be cleared.
     Free,
     /// Something that depends on it isn't shut.
@@ -58,9 +58,9 @@ pub(crate) fn is_free<V: View>(
     ensures known { OnOk result (KnowsDependents (V.rows view.now) parent known.new) }
 {
     match standing_of(alloc, view, known, parent, child)? {
-        Standing::Free => Ok(true),
-        Standing::Bound => Ok(false),
-        Standing::ByOwn => is_free_behind(alloc, view, known, parent, child),
+        ChildStanding::Free => Ok(true),
+        ChildStanding::Bound => Ok(false),
+        ChildStanding::ByOwn => is_free_behind(alloc, view, known, parent, child),
     }
 }
 
@@ -85,9 +85,9 @@ fn is_free_behind<V: View>(
     }
     clear(alloc, known, parent)?;
     match standing_of(alloc, view, known, parent, child)? {
-        Standing::Free => Ok(true),
-        Standing::Bound => Ok(false),
-        Standing::ByOwn => unreachable!(),
+        ChildStanding::Free => Ok(true),
+        ChildStanding::Bound => Ok(false),
+        ChildStanding::ByOwn => unreachable!(),
     }
 }
 
@@ -136,9 +136,9 @@ fn binds_own<V: View>(
         return Ok(false);
     }
     match standing_of(alloc, view, known, parent, child)? {
-        Standing::Free => Ok(true),
-        Standing::Bound => Ok(false),
-        Standing::ByOwn => Ok(false),
+        ChildStanding::Free => Ok(true),
+        ChildStanding::Bound => Ok(false),
+        ChildStanding::ByOwn => Ok(false),
     }
 }
 
@@ -149,11 +149,11 @@ pub(crate) fn standing_of<V: View>(
     known: &mut Dependents,
     parent: u64,
     child: u64,
-) -> Result<Standing, Memory>
+) -> Result<ChildStanding, Memory>
     requires sound { IsSound (V.rows view.now) (V.next_inc view.now) }
     requires known { KnowsDependents (V.rows view.now) parent known.old }
     requires kid { IsKid (V.rows view.now) parent child }
-    ensures standing { IfOk result (IsStanding (V.rows view.now) parent child known.new) }
+    ensures standing { IfOk result (IsChildStanding (V.rows view.now) parent child known.new) }
     ensures known { OnOk result (KnowsDependents (V.rows view.now) parent known.new) }
     ensures own { OnOk result (is_in_set known.new.cleared parent ≡ is_in_set known.old.cleared parent) }
 {
@@ -179,7 +179,7 @@ fn climb<V: View>(
     way: &mut Vec<u64>,
     at: u64,
     look: ClientLook,
-) -> Result<Option<Standing>, Memory>
+) -> Result<Option<ChildStanding>, Memory>
     requires sound { IsSound (V.rows view.now) (V.next_inc view.now) }
     requires known { KnowsDependents (V.rows view.now) parent known.old }
     requires way { IsClimb (V.rows view.now) parent child (way.old.items ++ at ∷ []) }
@@ -191,8 +191,8 @@ fn climb<V: View>(
 {
     match look {
         ClientLook::NoClient => go_back(alloc, view, known, parent, child, way, at),
-        ClientLook::Unshut => Ok(Some(Standing::Bound)),
-        ClientLook::Own => Ok(Some(Standing::ByOwn)),
+        ClientLook::Unshut => Ok(Some(ChildStanding::Bound)),
+        ClientLook::Own => Ok(Some(ChildStanding::ByOwn)),
         ClientLook::Shut(client) => {
             way.push(at)?;
             way.push(client)?;
@@ -210,7 +210,7 @@ fn go_back<V: View>(
     child: u64,
     way: &mut Vec<u64>,
     at: u64,
-) -> Result<Option<Standing>, Memory>
+) -> Result<Option<ChildStanding>, Memory>
     requires sound { IsSound (V.rows view.now) (V.next_inc view.now) }
     requires known { KnowsDependents (V.rows view.now) parent known.old }
     requires way { IsClimb (V.rows view.now) parent child (way.old.items ++ at ∷ []) }
@@ -221,7 +221,7 @@ fn go_back<V: View>(
     ensures own { OnOk result (is_in_set known.new.cleared parent ≡ is_in_set known.old.cleared parent) }
 {
     if way.is_empty() {
-        return Ok(Some(Standing::Free));
+        return Ok(Some(ChildStanding::Free));
     }
     clear(alloc, known, at)?;
     Ok(None)

@@ -3,3 +3,4 @@ pub mod Reporting
 pub mod Creations
 pub mod Kids
 pub mod Leading
+pub mod Edges

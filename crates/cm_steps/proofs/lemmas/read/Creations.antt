@@ -15,7 +15,7 @@ use Rattle.cm_decl.specs.Reach.{NoCycle}
 use Rattle.cm_trees.specs.Kids.{kids}
 use Rattle.cm_trees.specs.Names as names
 use Rattle.cm_trees.specs.Names.{dynamic_child}
-use Rattle.cm_order.proofs.lemmas.names.Edges.{names_acyclic}
+use Rattle.cm_steps.proofs.lemmas.read.Edges.{names_acyclic}
 use Rattle.cm_world.specs.World.{rows_fit}
 use Rattle.cm_world.specs.Create.{refused_create, CreatesUnder, CreatesUnless, IsCreateReply, dynamic_name, dynamic_children, dynamic_with}
 use Rattle.cm_dynamic.specs.declared.create.MayCreate.{MayCreate}
