@@ -5,12 +5,12 @@ use Rattle.std.specs.BTreeMap.{get}
 use Rattle.cm_order.proofs.lemmas.levels.Clearing.{known_left, left_told}
 use Rattle.cm_order.proofs.clearing.next_client.Goals as goal
 
-pub returns-in-Some-clause-client : goal.returns-in-Some-clause-client
-returns-in-Some-clause-client c =
+pub returns-in_ok-last-in-Some-clause-client : goal.returns-in_ok-last-in-Some-clause-client
+returns-in_ok-last-in-Some-clause-client c =
     let there : get nat_cmp c.args.known.now.edges.clients c.args.child ≡ Some c.in-Some.clients.now = sym c.get_mut.ensures.value ∙ ap option_copied_mut c.in-Some.is in
-    left_told _ c.args.child c.trim.new.list c.in_ok-last.last ((c.get_mut.follows.holds c.trim.new.list).3 (ap is_some there)).1 c.in_ok-last.ensures.last
+    left_told _ c.args.child c.trim.new.list c.in_ok-last-in-Some.last ((c.get_mut.follows.holds c.trim.new.list).3 (ap is_some there)).1 c.in_ok-last-in-Some.ensures.last
 
-pub returns-in-Some-clause-known : goal.returns-in-Some-clause-known
-returns-in-Some-clause-known c = λ rows p is.
+pub returns-in_ok-last-in-Some-clause-known : goal.returns-in_ok-last-in-Some-clause-known
+returns-in_ok-last-in-Some-clause-known c = λ rows p is.
     let there : get nat_cmp c.args.known.now.edges.clients c.args.child ≡ Some c.in-Some.clients.now = sym c.get_mut.ensures.value ∙ ap option_copied_mut c.in-Some.is in
-    known_left rows p c.args.child c.args.known.now _ c.in-Some.clients.now c.trim.new.list is refl there ((c.get_mut.follows.holds c.trim.new.list).3 (ap is_some there)).0 c.in_ok-last.ensures.left c.in_ok-last.ensures.only
+    known_left rows p c.args.child c.args.known.now _ c.in-Some.clients.now c.trim.new.list is refl there ((c.get_mut.follows.holds c.trim.new.list).3 (ap is_some there)).0 c.in_ok-last-in-Some.ensures.left c.in_ok-last-in-Some.ensures.only

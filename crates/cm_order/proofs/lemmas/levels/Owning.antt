@@ -1,5 +1,5 @@
 -- Whether a row leads at its own level.
-use Rattle.std.proofs.Common.{◌≡◌, ℕ, ◌<◌, List, [], ◌∷◌, Bool, true, false, true≢false, ◌&&◌, Option, Some, None, is_none, IsTrue, refl, sym, ◌∙◌, ap, subst, inl, inr, arith}
+use Rattle.std.proofs.Common.{◌≡◌, ℕ, ◌<◌, List, [], ◌∷◌, Bool, true, false, true≢false, ◌&&◌, Option, Some, None, is_some, not, IsTrue, refl, sym, ◌∙◌, ap, subst, inl, inr, arith}
 use Rattle.std.specs.Prelude.{◌↔◌}
 use Rattle.std.specs.List.{list_any}
 use Rattle.std.specs.Option.{option_map_or}
@@ -190,12 +190,11 @@ module _ (rows : List Row) (next : ℕ) (sound : IsSound rows next) (p : ℕ) wh
       own_free rows next sound p (λ c kid on leads. no_kids rows p behind c (sym none) kid (so_far c kid on leads))
 
   -- where it isn't shut, it leads where no child does
-  pub own_leads_by : (o : Option ℕ) (none : Bool) → is_shut rows p ≡ false → IsNextLeading rows p None o → none ≡ is_none o → IsTrue none ↔ IsFreeAt rows p p
-  own_leads_by None none unshut first is = (
+  pub own_leads_by : (o : Option ℕ) (none : Bool) → is_shut rows p ≡ false → IsNextLeading rows p None o → is_some o ≡ not none → IsTrue none ↔ IsFreeAt rows p p
+  own_leads_by None true unshut first is = (
     λ told. record { free = own_free rows next sound p (λ c kid on leads. first c kid refl leads); unshut = own_shut rows p ∙ unshut },
-    λ it. is,
+    λ it. refl,
   )
-  own_leads_by (Some c) none unshut first is = (
-    λ told. absurd (true≢false (sym told ∙ is)),
-    λ it. absurd (own_bound_leads rows next sound p c first.kid first.leads unshut it.free),
-  )
+  own_leads_by None false unshut first is = absurd (true≢false (sym is))
+  own_leads_by (Some c) true unshut first is = absurd (true≢false is)
+  own_leads_by (Some c) false unshut first is = false_iff (λ it. own_bound_leads rows next sound p c first.kid first.leads unshut it.free)

@@ -10,6 +10,7 @@ use Rattle.std.proofs.lemmas.Bool.{or_cases}
 use Rattle.std.proofs.lemmas.List.{length-append}
 use Rattle.cm_facts.proofs.Booleans.{true_and_false}
 use Rattle.cm_facts.proofs.Numbers.{eq_self}
+use Rattle.cm_facts.proofs.Lists.{length_cons_zero}
 use Rattle.cm_decl.specs.Reach.{DependencyPath, Reaches}
 use Rattle.cm_decl.specs.RealmGraph.{Depends}
 use Rattle.cm_decl.proofs.lemmas.Sameness.{never}
@@ -79,6 +80,14 @@ begins_left c (x ∷ xs) y b answers none it = it
 begins_first : (P : ℕ → Type 0) (c : ℕ) (xs : List ℕ) → BeginsWith c xs → EachOfList P xs → P c
 begins_first P c [] it all = absurd it
 begins_first P c (x ∷ xs) it all = subst P it all.0
+
+-- A list whose length is told to be zero is empty, and an empty one's is.
+pub none_told : (xs : List ℕ) (n : ℕ) (b : Bool) → n ≡ length xs → b ≡ (n == 0) → IsTrue b ↔ (xs ≡ [])
+none_told [] n b long is = (λ told. refl, λ same. is ∙ ap (λ k. k == 0) long)
+none_told (x ∷ xs) n b long is = (
+  λ told. absurd (true≢false (sym told ∙ is ∙ ap (λ k. k == 0) long ∙ length_cons_zero x xs)),
+  λ same. never (subst (λ l. IsTrue (list_any (λ y. true) l)) same refl),
+)
 
 -- ---- how many pass
 
@@ -293,8 +302,8 @@ look_told rows p x z known (look.Shut y) is client seen = subst (λ y. IsKidAbov
 })
 
 -- A row that isn't p is wholly shut where it is shut with all below it.
-pub kid_wholly : (rows : List Row) (p z : ℕ) → (z == p) ≡ false → is_wholly_shut rows p z ≡ is_subtree_shut rows z
-kid_wholly rows p z e = rw e refl
+pub kid_wholly : (rows : List Row) (p z : ℕ) → z ≢ p → is_wholly_shut rows p z ≡ is_subtree_shut rows z
+kid_wholly rows p z apart = rw (not_true (z == p) (λ same. apart ((unsigned_Decides z p).0 same))) refl
 
 -- a way isn't empty
 pub climb_ends : (rows : List Row) (p c : ℕ) (ws : List ℕ) → ws ≡ [] → IsClimb rows p c ws → ⊥

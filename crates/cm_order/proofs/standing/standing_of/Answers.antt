@@ -20,26 +20,26 @@ look_at-requires-clause-kid g c =
 pub climb-requires-clause-way : goal.climb-requires-clause-way
 climb-requires-clause-way g c = subst (IsClimb (g.V.View.rows c.args.view.now) c.args.parent c.args.child) c.in-Some.ensures.items c.loop-at.invariant.0
 
-pub returns-in-Some-climb-clause-standing : goal.returns-in-Some-climb-clause-standing
-returns-in-Some-climb-clause-standing g c =
-    subst (IsClimbed (g.V.View.rows c.args.view.now) c.args.parent c.args.child c.look_at.new.known.cleared (c.pop.new.self.items ++ c.in-Some.at ∷ []) c.climb.new.known c.climb.new.way.items) c.in-Some-climb.is c.in_ok-climb.ensures.climbed
+pub returns-in-Some-2-clause-standing : goal.returns-in-Some-2-clause-standing
+returns-in-Some-2-clause-standing g c =
+    subst (IsClimbed (g.V.View.rows c.args.view.now) c.args.parent c.args.child c.look_at.new.known.cleared (c.pop.new.self.items ++ c.in-Some.at ∷ []) c.climb.new.known c.climb.new.way.items) c.in-Some-2.is c.in_ok-told.ensures.climbed
 
-pub returns-in-Some-climb-clause-own : goal.returns-in-Some-climb-clause-own
-returns-in-Some-climb-clause-own g c =
-    c.in_ok-climb.ensures.own ∙ ap (λ s. is_in_set s c.args.parent) c.in_ok-look.ensures.cleared ∙ c.loop-at.invariant.2
+pub returns-in-Some-2-clause-own : goal.returns-in-Some-2-clause-own
+returns-in-Some-2-clause-own g c =
+    c.in_ok-told.ensures.own ∙ ap (λ s. is_in_set s c.args.parent) c.in_ok-look.ensures.cleared ∙ c.loop-at.invariant.2
 
 pub loop-at-preserved : goal.loop-at-preserved
 loop-at-preserved g c = (
-  (subst (IsClimbed (g.V.View.rows c.args.view.now) c.args.parent c.args.child c.look_at.new.known.cleared (c.pop.new.self.items ++ c.in-Some.at ∷ []) c.climb.new.known c.climb.new.way.items) c.in_default-climb.is c.in_ok-climb.ensures.climbed).0,
-  c.in_ok-climb.ensures.known,
-  c.in_ok-climb.ensures.own ∙ ap (λ s. is_in_set s c.args.parent) c.in_ok-look.ensures.cleared ∙ c.loop-at.invariant.2,
+  (subst (IsClimbed (g.V.View.rows c.args.view.now) c.args.parent c.args.child c.look_at.new.known.cleared (c.pop.new.self.items ++ c.in-Some.at ∷ []) c.climb.new.known c.climb.new.way.items) c.in_default-2.is c.in_ok-told.ensures.climbed).0,
+  c.in_ok-told.ensures.known,
+  c.in_ok-told.ensures.own ∙ ap (λ s. is_in_set s c.args.parent) c.in_ok-look.ensures.cleared ∙ c.loop-at.invariant.2,
 )
 
 pub loop-at-smaller : goal.loop-at-smaller
 loop-at-smaller g c =
     subst (λ l. effort (g.V.View.rows c.args.view.now) c.climb.new.known.cleared c.climb.new.way.items < effort (g.V.View.rows c.args.view.now) c.loop-at.known.cleared l) (sym c.in-Some.ensures.items)
     (subst (λ s. effort (g.V.View.rows c.args.view.now) c.climb.new.known.cleared c.climb.new.way.items < effort (g.V.View.rows c.args.view.now) s (c.pop.new.self.items ++ c.in-Some.at ∷ [])) c.in_ok-look.ensures.cleared
-    (subst (IsClimbed (g.V.View.rows c.args.view.now) c.args.parent c.args.child c.look_at.new.known.cleared (c.pop.new.self.items ++ c.in-Some.at ∷ []) c.climb.new.known c.climb.new.way.items) c.in_default-climb.is c.in_ok-climb.ensures.climbed).1)
+    (subst (IsClimbed (g.V.View.rows c.args.view.now) c.args.parent c.args.child c.look_at.new.known.cleared (c.pop.new.self.items ++ c.in-Some.at ∷ []) c.climb.new.known c.climb.new.way.items) c.in_default-2.is c.in_ok-told.ensures.climbed).1)
 
 pub unreachable-requires : goal.unreachable-requires
 unreachable-requires g c =
