@@ -7,6 +7,6 @@ pub loop-child-smaller : goal.loop-child-smaller
 loop-child-smaller g c =
     room_less (g.V.View.rows c.args.view.now) (g.V.View.next_inc c.args.view.now) c.args.parent c.in-Some.child c.loop-child.passed c.requires.sound.orderly c.in-Some.ensures
 
-pub is_open_child-requires-clause-kid : goal.is_open-requires-clause-kid
+pub is_open_child-requires-clause-kid : goal.is_open_child-requires-clause-kid
 is_open_child-requires-clause-kid g c =
     (next_kid (g.V.View.rows c.args.view.now) (g.V.View.next_inc c.args.view.now) c.requires.sound.orderly c.args.parent c.loop-child.passed c.in-Some.child (sym c.in-Some.ensures)).0
