@@ -84,8 +84,8 @@ pub(crate) fn is_free_child<V: View>(view: &V, known: &Dependents, parent: u64, 
     known.is_free(child)
 }
 
-/// Whether an instance is a child of the other. `binding.rt` asks it before it looks for a dependency.
-pub(crate) fn is_child<V: View>(view: &V, parent: u64, child: u64) -> bool
+/// Whether an instance is a child of the other.
+fn is_child<V: View>(view: &V, parent: u64, child: u64) -> bool
     ensures { IsTrue result → IsKid (V.rows view.now) parent child }
 {
     let Some(facts) = view.facts(child) else {

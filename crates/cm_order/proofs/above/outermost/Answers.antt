@@ -1,4 +1,3 @@
-use Rattle.std.proofs.Common.{sym, ◌∙◌}
 use Rattle.cm_walk.proofs.lemmas.ways.Monikers.{loop-lower}
 use Rattle.cm_trees.proofs.trees.Tops.{goes_up, goes_no_further}
 use Rattle.cm_order.proofs.above.outermost.Goals as goal

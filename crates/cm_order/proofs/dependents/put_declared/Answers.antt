@@ -2,7 +2,7 @@ use Rattle.std.proofs.Common.{IsTrue, ◌∙◌, subst, inl, inr}
 use Rattle.std.specs.List.{list_any}
 use Rattle.cm_decl.specs.declared.decl.Decl.{Decl}
 use Rattle.cm_world.proofs.lemmas.trees.Finding.{some_same}
-use Rattle.cm_order.specs.Glances.{AreOffered, HasOffered, HasSources, is_client, is_offered, is_offered_from, is_used_from}
+use Rattle.cm_order.specs.Glances.{AreOffered, HasOffered, HasSources, is_client, is_offered_from, is_used_from}
 use Rattle.cm_order.proofs.lemmas.levels.Real.{used_strong, none_offered}
 use Rattle.cm_order.proofs.lemmas.names.Sources.{all_put}
 use Rattle.cm_order.proofs.dependents.put_declared.Goals as goal

@@ -1,11 +1,10 @@
 -- What a child strongly depends on, by what it was given and by what is offered to its name.
-use Rattle.std.proofs.Common.{◌≡◌, ℕ, ◌<◌, List, [], ◌∷◌, ◌++◌, length, get_or, Bool, true, false, ◌&&◌, Some, IsTrue, filter, map, not, option_map, option_and_then, refl, sym, ◌∙◌, ap, subst, inl, inr}
+use Rattle.std.proofs.Common.{◌≡◌, ℕ, List, [], ◌∷◌, ◌++◌, Bool, true, false, ◌&&◌, Some, IsTrue, filter, map, option_and_then, refl, sym, ◌∙◌, ap, inl, inr}
 use Rattle.std.specs.List.{list_any}
-use Rattle.std.specs.Option.{option_map_or}
 use Rattle.std.specs.Str.{bytes_eq}
-use Rattle.std.proofs.lemmas.List.Folds.{list_any-append, list_any_at}
+use Rattle.std.proofs.lemmas.List.Folds.{list_any-append}
 use Rattle.std.specs.Cmp.{first_so, second_so}
-use Rattle.std.proofs.lemmas.Bool.{not-true, or_cases}
+use Rattle.std.proofs.lemmas.Bool.{or_cases}
 use Rattle.cm_names.specs.declared.child.ChildName.{ChildName}
 use Rattle.cm_facts.proofs.Booleans.{true_and_false}
 use Rattle.cm_decl.specs.declared.decl.Decl.{Decl}
@@ -14,16 +13,14 @@ use Rattle.cm_decl.specs.declared.rows.Offer.{Offer}
 use Rattle.cm_decl.specs.Graph.{is_strong, target_of, child_sources, offers_to}
 use Rattle.cm_decl.proofs.lemmas.Sameness.{never}
 use Rattle.cm_world.specs.declared.row.Row.{Row}
-use Rattle.cm_world.specs.Rows.{row_of, decl_of, is_subtree_shut}
+use Rattle.cm_world.specs.Rows.{decl_of}
 use Rattle.cm_world.specs.RowsInside.{name_of}
 use Rattle.cm_world.specs.Level.{is_level_node, row_sources, level_sources, is_from_row, LevelStrong}
 use Rattle.cm_world.specs.Sound.{IsSound}
 use Rattle.cm_trees.specs.Kids.{IsKid}
-use Rattle.cm_order.specs.Search.{IsFreeAt}
 use Rattle.cm_order.specs.Glances.{is_given_from, is_offered_from}
-use Rattle.cm_trees.proofs.trees.Trees.{or_left, or_right, and_pair, below_self, shut_each, not_true}
-use Rattle.cm_order.proofs.lemmas.names.Sources.{kid_all, gives_same}
-use Rattle.cm_trees.proofs.levels.Shut.{kid_shut}
+use Rattle.cm_trees.proofs.trees.Trees.{or_left, or_right, and_pair}
+use Rattle.cm_order.proofs.lemmas.names.Sources.{kid_all}
 use Rattle.cm_trees.proofs.levels.Nodes.{kid_node}
 
 -- what passes one test passes another, once it was kept and changed

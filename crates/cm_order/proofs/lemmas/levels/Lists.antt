@@ -1,5 +1,5 @@
 -- Lists of rows that a map has for its keys.
-use Rattle.std.proofs.Common.{◌≡◌, ℕ, ◌+◌, ◌<◌, ◌≤◌, List, [], ◌∷◌, ◌++◌, length, take, get_or, Bool, true, false, cond, ◌==◌, Option, Some, None, IsTrue, refl, sym, ◌∙◌, subst, inl, inr, ◌⊎◌}
+use Rattle.std.proofs.Common.{◌≡◌, ℕ, ◌+◌, ◌<◌, ◌≤◌, List, [], ◌∷◌, ◌++◌, length, take, get_or, Bool, true, false, cond, ◌==◌, Option, Some, IsTrue, refl, sym, ◌∙◌, subst, inl, inr, ◌⊎◌}
 use Rattle.std.specs.Prelude.{unwrap_or}
 use Rattle.std.specs.List.{list_any}
 use Rattle.std.specs.declared.cmp.Ordering.{Ordering}
@@ -65,11 +65,6 @@ cond_on true x y z = refl
 cond_on false x y z = refl
 
 module _ {K : Type 0} (cmp : K → K → Ordering) where
-  -- one that was taken out, changed and put back
-  pub put_back : (old rest new : BTreeMap K (List ℕ)) (key : K) (o : Option (List ℕ)) → ((q : K) → get cmp rest q ≡ cond (is_at (cmp key) q) None (get cmp old q)) → ((q : K) → get cmp new q ≡ cond (is_at (cmp key) q) o (get cmp rest q)) → (q : K) → get cmp new q ≡ cond (is_at (cmp key) q) o (get cmp old q)
-  put_back old rest new key o taken put q =
-      subst (λ l. get cmp new q ≡ cond (is_at (cmp key) q) o l) (taken q) (put q) ∙ cond_on (is_at (cmp key) q) o None (get cmp old q)
-
   -- What was in the old list of a key is in the list that is taken now, or was left out.
   left_by : (C : ℕ → Type 0) (b : Bool) (o p : Option (List ℕ)) (z : ℕ) → (IsTrue b → IsTrue (is_in_list (unwrap_or p []) z) → IsTrue (is_in_list (unwrap_or o []) z) ⊎ C z) → IsTrue (is_in_list (unwrap_or p []) z) → IsTrue (is_in_list (unwrap_or (cond b o p) []) z) ⊎ C z
   left_by C true o p z more there = more refl there

@@ -1,5 +1,5 @@
 -- What is put into the lists of a level strongly depends on the row in whose list it is.
-use Rattle.std.proofs.Common.{◌≡◌, ℕ, ◌+◌, ◌<◌, ◌≤◌, List, [], ◌∷◌, take, get_or, length, inl, inr, ◌⊎◌, Bool, true, false, ◌&&◌, ◌==◌, true≢false, Option, Some, None, IsTrue, IsSome, is_some, option_and_then, sym, ◌∙◌, ap, subst, refl}
+use Rattle.std.proofs.Common.{◌≡◌, ℕ, ◌+◌, ◌<◌, ◌≤◌, List, [], take, get_or, length, inl, inr, ◌⊎◌, Bool, ◌&&◌, ◌==◌, true≢false, Option, Some, None, IsTrue, IsSome, is_some, option_and_then, sym, ◌∙◌, ap, subst, refl}
 use Rattle.std.specs.List.{list_any}
 use Rattle.std.specs.Str.{bytes_eq}
 use Rattle.std.specs.Prelude.{unwrap_or}
@@ -19,7 +19,7 @@ use Rattle.cm_decl.specs.declared.origin.Origin.TheVariants as origin
 use Rattle.cm_decl.specs.declared.rows.Give.{Give}
 use Rattle.cm_decl.specs.declared.rows.Offer.{Offer}
 use Rattle.cm_decl.specs.declared.rows.Usage.{Usage}
-use Rattle.cm_decl.specs.Graph.{is_strong, is_from_child, target_of, own_sources}
+use Rattle.cm_decl.specs.Graph.{is_strong, is_from_child, target_of}
 use Rattle.cm_decl.proofs.lemmas.Sameness.{never}
 use Rattle.cm_world.specs.declared.row.Row.{Row}
 use Rattle.cm_world.specs.Rows.{row_of, decl_of, is_live, child_of}

@@ -1,22 +1,20 @@
 -- How a child stands at its level, by the lists of the level.
-use Rattle.std.proofs.Common.{◌≡◌, ◌≢◌, ℕ, suc, ◌+◌, ◌<◌, ◌≤◌, List, [], ◌∷◌, ◌++◌, length, filter, Bool, true, false, not, cond, ◌&&◌, ◌||◌, ◌==◌, true≢false, Option, Some, None, IsTrue, refl, sym, ◌∙◌, ap, subst, inl, inr, ◌⊎◌, arith}
-use Rattle.std.specs.Prelude.{◌↔◌, unwrap_or}
+use Rattle.std.proofs.Common.{◌≡◌, ◌≢◌, ℕ, ◌+◌, ◌<◌, ◌≤◌, List, [], ◌∷◌, ◌++◌, length, filter, Bool, true, false, not, cond, ◌&&◌, ◌==◌, true≢false, Some, IsTrue, refl, sym, ◌∙◌, ap, subst, inl, inr, ◌⊎◌, arith}
+use Rattle.std.specs.Prelude.{◌↔◌}
 use Rattle.std.specs.List.{list_any}
-use Rattle.std.specs.Cmp.{unsigned_Decides, first_so, second_so}
+use Rattle.std.specs.Cmp.{unsigned_Decides}
 use Rattle.std.specs.Ordering.{nat_cmp}
 use Rattle.std.specs.BTreeSet.{BTreeSet}
 use Rattle.std.specs.BTreeMap.{is_at}
 use Rattle.std.proofs.lemmas.Bool.{or_cases}
 use Rattle.std.proofs.lemmas.List.{length-append}
 use Rattle.cm_facts.proofs.Booleans.{true_and_false}
-use Rattle.cm_facts.proofs.Numbers.{eq_self}
 use Rattle.cm_facts.proofs.Lists.{length_cons_zero}
 use Rattle.cm_decl.specs.Reach.{DependencyPath, Reaches}
 use Rattle.cm_decl.specs.RealmGraph.{Depends}
 use Rattle.cm_decl.proofs.lemmas.Sameness.{never}
-use Rattle.cm_decl.proofs.lemmas.cycles.Reaching.{Reaches-trans}
 use Rattle.cm_world.specs.declared.row.Row.{Row}
-use Rattle.cm_world.specs.Rows.{row_of, is_shut, is_subtree_shut}
+use Rattle.cm_world.specs.Rows.{row_of, is_subtree_shut}
 use Rattle.cm_world.specs.Level.{level, LevelStrong}
 use Rattle.cm_world.specs.LevelInside.{LevelOn}
 use Rattle.cm_world.specs.Sound.{IsSound}
@@ -27,9 +25,9 @@ use Rattle.cm_order.specs.declared.standing.ClientLook.{ClientLook}
 use Rattle.cm_order.specs.declared.standing.ClientLook.TheVariants as look
 use Rattle.cm_trees.specs.Kids.{IsKid}
 use Rattle.cm_order.specs.Levels.{EachOfList}
-use Rattle.cm_order.specs.Glances.{is_in_list, is_in_set, is_client, IsCleared, KnowsDependents}
+use Rattle.cm_order.specs.Glances.{is_in_list, is_in_set, is_client, KnowsDependents}
 use Rattle.cm_order.specs.Standing.{HasNoClient, IsFreeByLists, IsBoundBy, IsOwnLeft, IsKidAbove, IsByOwn, BeginsWith, Pairwise, IsOnClimb, IsClimb, IsClientLeft, IsSeen, IsLook, effort}
-use Rattle.cm_trees.proofs.trees.Trees.{kid_higher, or_left, or_right, and_pair, not_true}
+use Rattle.cm_trees.proofs.trees.Trees.{kid_higher, not_true}
 use Rattle.cm_order.proofs.lemmas.searches.Turns.{each_join, each_split}
 use Rattle.cm_trees.proofs.levels.Nodes.{node_kid}
 use Rattle.cm_world.proofs.lemmas.trees.Levels.{edge_node}

@@ -1,4 +1,4 @@
-use Rattle.std.proofs.Common.{◌≡◌, ◌∷◌, [], ◌++◌, refl, sym, ◌∙◌, ap, subst}
+use Rattle.std.proofs.Common.{◌≡◌, ◌∷◌, [], ◌++◌, sym, ◌∙◌, ap, subst}
 use Rattle.cm_order.specs.Standing.{IsLook, IsClimb, effort, IsKidAbove}
 use Rattle.std.specs.Prelude.{◌<◌}
 use Rattle.cm_order.proofs.lemmas.levels.Standing.{climb_bound, climb_own, climb_up, up_falls}
@@ -21,7 +21,7 @@ pub returns-in_ok-push-in-Shut-2-clause-climbed : goal.returns-in_ok-push-in-Shu
 returns-in_ok-push-in-Shut-2-clause-climbed g c =
     let rows = g.V.View.rows c.args.view.now in
     let next = g.V.View.next_inc c.args.view.now in
-    let items : c.push-in-Shut.new.self.items ≡ (c.args.way.now.items ++ c.args.at ∷ []) ++ c.in-Shut.client ∷ [] = c.in_ok-push-in-Shut-2.ensures.items ∙ ap (λ l. l ++ c.in-Shut.client ∷ []) c.in_ok-push-in-Shut.ensures.items in
+    let items : c.push-in-Shut.new.self.items ≡ (c.args.way.now.items ++ c.args.at ∷ []) ++ c.in-Shut.client ∷ [] = c.in_ok-push-in-Shut-2.ensures.items ∙ ap (λ l. l ++ c.in-Shut.client ∷ []) {y = c.args.way.now.items ++ c.args.at ∷ []} c.in_ok-push-in-Shut.ensures.items in
     let above : IsKidAbove rows c.args.parent c.args.at c.in-Shut.client c.args.known.now = subst (IsLook rows c.args.parent c.args.at c.args.known.now) c.in-Shut.is c.requires.look in (
       subst (IsClimb rows c.args.parent c.args.child) (sym items) (climb_up rows next c.requires.sound c.args.parent c.args.child c.args.way.now.items c.args.at c.in-Shut.client c.args.known.now c.requires.way above),
       subst (λ l. effort rows c.args.known.now.cleared l < effort rows c.args.known.now.cleared (c.args.way.now.items ++ c.args.at ∷ [])) (sym items) (up_falls rows next c.requires.sound c.args.parent c.args.child c.args.way.now.items c.args.at c.in-Shut.client c.args.known.now c.requires.way above),

@@ -1,4 +1,4 @@
-use Rattle.std.proofs.Common.{refl, sym, ◌∙◌, inr}
+use Rattle.std.proofs.Common.{inr}
 use Rattle.cm_order.specs.Glances.{IsCleared}
 use Rattle.cm_order.specs.Standing.{IsOnClimb}
 use Rattle.cm_order.proofs.lemmas.levels.Standing.{climb_last, climb_free, climb_shut, climb_back, free_told, back_falls, other_same, none_told}

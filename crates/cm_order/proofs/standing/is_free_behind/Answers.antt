@@ -1,4 +1,4 @@
-use Rattle.std.proofs.Common.{◌≡◌, false, true≢false, IsTrue, refl, sym, ◌∙◌, subst, inl}
+use Rattle.std.proofs.Common.{true≢false, refl, sym, ◌∙◌, subst, inl}
 use Rattle.cm_facts.proofs.Booleans.{false_iff, true_and_false}
 use Rattle.cm_order.specs.Glances.{is_in_set, IsCleared}
 use Rattle.cm_order.specs.Standing.{IsChildStanding, IsByOwn}

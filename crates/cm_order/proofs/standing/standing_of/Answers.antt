@@ -1,8 +1,7 @@
 use Rattle.std.proofs.Common.{rules, ◌≡◌, [], ◌∷◌, ◌++◌, refl, sym, ◌∙◌, ap, subst}
 use Rattle.cm_order.specs.Glances.{is_in_set}
-use Rattle.cm_order.specs.Standing.{IsClimb, IsClimbed, IsChildStanding, effort}
+use Rattle.cm_order.specs.Standing.{IsClimb, IsClimbed, effort}
 use Rattle.std.specs.Prelude.{◌<◌}
-use Rattle.cm_order.proofs.lemmas.searches.Turns.{alone}
 use Rattle.cm_order.proofs.lemmas.levels.Standing.{climb_first, climb_last, climb_ends}
 use Rattle.cm_order.proofs.standing.standing_of.Goals as goal
 
