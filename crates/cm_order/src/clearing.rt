@@ -287,11 +287,7 @@ pub(crate) struct ListEnd {
 }
 
 /// Leaves what is cleared at the end of a list out of it, and tells the last one that is left.
-fn trim(
-    alloc: Global,
-    cleared: &BTreeSet<u64>,
-    list: &mut List<u64>,
-) -> Result<Option<u64>, Memory>
+fn trim(alloc: Global, cleared: &BTreeSet<u64>, list: &mut List<u64>) -> Result<Option<u64>, Memory>
     ensures last { IfOk result (IsLastLeft cleared.now list.new) }
     ensures left { OnOk result ((z : ℕ) → IsTrue (is_in_list list.old z) →
         IsTrue (is_in_list list.new z) ⊎ IsTrue (is_in_set cleared.now z)) }

@@ -398,7 +398,7 @@ fn put_named<V: View>(
     ensures kept { OnOk result (ClientsGrow edges.old.clients edges.new.clients) }
     ensures real { OnOk result ((p : ℕ) →
         ((c : OneName) (x : ℕ) → name_of (V.rows view.now) child ≡ Some c →
-            IsTrue (is_offered offered.now (graph.target_of c) x) → LevelStrong (V.rows view.now) p child x) →
+        IsTrue (is_offered offered.now (graph.target_of c) x) → LevelStrong (V.rows view.now) p child x) →
         AreClients (V.rows view.now) p edges.old.clients →
         AreClients (V.rows view.now) p edges.new.clients) }
 {

@@ -252,12 +252,7 @@ fn look_at<V: View>(
 }
 
 /// What one that is in a list says: it isn't shut, or isn't known to be cleared.
-fn look_up<V: View>(
-    alloc: Global,
-    view: &V,
-    parent: u64,
-    client: u64,
-) -> Result<ClientLook, Memory>
+fn look_up<V: View>(alloc: Global, view: &V, parent: u64, client: u64) -> Result<ClientLook, Memory>
     ensures { IfOk result (IsSeen (V.rows view.now) parent client) }
 {
     if client == parent {

@@ -23,5 +23,5 @@ returns g c =
       shut = kid_shut rows (g.V.View.next_inc c.args.view.now) c.requires.sound.orderly c.args.parent c.args.child free.kid ∙ c.requires.shut;
     } in
     let none : HasNoClient c.leave-2.new.self c.args.child = λ z.
-        subst (λ e. is_in_list (unwrap_or (get nat_cmp e.clients c.args.child) []) z ≡ false) (sym c.leave-2.ensures.edges) (c.is_free_child.ensures.none c.if-not-is_free_child.false z) in
+    subst (λ e. is_in_list (unwrap_or (get nat_cmp e.clients c.args.child) []) z ≡ false) (sym c.leave-2.ensures.edges) (c.is_free_child.ensures.none c.if-not-is_free_child.false z) in
     on_ok_weaker c.clear.result (λ h. h rows c.args.parent known cleared (inr none)) c.clear.ensures.known

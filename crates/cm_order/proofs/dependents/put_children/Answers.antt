@@ -13,10 +13,10 @@ loop-child-smaller g c =
 
 pub loop-child-preserved : goal.loop-child-preserved
 loop-child-preserved g c = (
-    covering_more (g.V.View.rows c.args.view.now) (g.V.View.next_inc c.args.view.now) c.requires c.args.parent c.in-Some.child c.args.offered.now c.loop-child.behind c.args.edges.now.clients c.loop-child.edges.clients c.put_child.new.edges.clients c.loop-child.invariant.0 c.in-Some.ensures c.in_ok-put_child.ensures.put c.in_ok-put_child.ensures.kept,
-    λ offered are.
-        c.in_ok-put_child.ensures.real c.requires (next_kid (g.V.View.rows c.args.view.now) (g.V.View.next_inc c.args.view.now) c.requires.orderly c.args.parent c.loop-child.behind c.in-Some.child (sym c.in-Some.ensures)).0 offered (c.loop-child.invariant.1 offered are),
-  )
+  covering_more (g.V.View.rows c.args.view.now) (g.V.View.next_inc c.args.view.now) c.requires c.args.parent c.in-Some.child c.args.offered.now c.loop-child.behind c.args.edges.now.clients c.loop-child.edges.clients c.put_child.new.edges.clients c.loop-child.invariant.0 c.in-Some.ensures c.in_ok-put_child.ensures.put c.in_ok-put_child.ensures.kept,
+  λ offered are.
+      c.in_ok-put_child.ensures.real c.requires (next_kid (g.V.View.rows c.args.view.now) (g.V.View.next_inc c.args.view.now) c.requires.orderly c.args.parent c.loop-child.behind c.in-Some.child (sym c.in-Some.ensures)).0 offered (c.loop-child.invariant.1 offered are),
+)
 
 pub returns : goal.returns
 returns g c = record {

@@ -169,9 +169,9 @@ module _ (rows : List Row) (next : ℕ) (sound : IsSound rows next) (p : ℕ) wh
       ap (list_any (is_from_row rows p x)) (own_all rows next sound p d found)
       ∙ any_to (is_from_row rows p x) (λ (u : Usage). u.from) (λ u. is_strong u.dependency && is_from_child u.from) (is_used_of rows p x)
       (λ u comes.
-          let used : IsTrue (is_used_from rows p x u) = second_so (is_from_child u.from) (is_used_from rows p x u) comes in (
-            and_pair (is_strong u.dependency) (is_from_child u.from) (first_so (is_strong u.dependency) (is_from_row rows p x u.from) used) (first_so (is_from_child u.from) (is_used_from rows p x u) comes),
-            second_so (is_strong u.dependency) (is_from_row rows p x u.from) used,
-          )) d.uses all in
+      let used : IsTrue (is_used_from rows p x u) = second_so (is_from_child u.from) (is_used_from rows p x u) comes in (
+        and_pair (is_strong u.dependency) (is_from_child u.from) (first_so (is_strong u.dependency) (is_from_row rows p x u.from) used) (first_so (is_from_child u.from) (is_used_from rows p x u) comes),
+        second_so (is_strong u.dependency) (is_from_row rows p x u.from) used,
+      )) d.uses all in
       and_pair (list_any (is_from_row rows p x) (level_sources rows p p) && is_level_node rows p p) (is_level_node rows p x)
       (and_pair (list_any (is_from_row rows p x) (level_sources rows p p)) (is_level_node rows p p) from (own_node d found)) node

@@ -238,8 +238,11 @@ module _ (rows : List Row) (next : ℕ) (sound : IsSound rows next) (p : ℕ) wh
   -- what is on the way above the child is shut
   pub climb_shut : (c : ℕ) (ws : List ℕ) (x : ℕ) (b : Bool) → IsClimb rows p c (ws ++ x ∷ []) → IsTrue b ↔ (ws ≡ []) → b ≡ false → IsTrue (is_wholly_shut rows p x)
   climb_shut c ws x b climb answers some = elim (climb_last c ws x climb).up [
-    | inl same ↦ absurd (sound.acyclic p (c, subst (λ y. Reaches (LevelStrong rows p) y c) same
-        (begins_first (λ w. Reaches (LevelStrong rows p) x w) c ws (begins_left c ws x b answers some climb.begins) (pairs_split (λ x y. Reaches (LevelStrong rows p) y x) ws x climb.order).1)))
+    | inl same ↦ absurd (sound.acyclic p (
+      c,
+      subst (λ y. Reaches (LevelStrong rows p) y c) same
+          (begins_first (λ w. Reaches (LevelStrong rows p) x w) c ws (begins_left c ws x b answers some climb.begins) (pairs_split (λ x y. Reaches (LevelStrong rows p) y x) ws x climb.order).1),
+    ))
     | inr up ↦ up.1
   ]
 
@@ -265,13 +268,13 @@ back_falls rows ws x old new here more =
     let fewer : length (filter (λ r. not (is_in_set new r.inc) && not (is_in_list ws r.inc)) rows) ≤ length (filter (λ r. not (is_in_set old r.inc) && not (is_in_list (ws ++ x ∷ []) r.inc)) rows) =
     counted_le (λ r. not (is_in_set new r.inc) && not (is_in_list ws r.inc)) (λ r. not (is_in_set old r.inc) && not (is_in_list (ws ++ x ∷ []) r.inc)) rows
     (λ s passes.
-        let uncleared : is_in_set new s.inc ≡ false = not_first (is_in_set new s.inc) (is_in_list ws s.inc) passes in
-        neither (is_in_set old s.inc) (is_in_list (ws ++ x ∷ []) s.inc)
-        (not_true (is_in_set old s.inc) (λ there. true_and_false (is_in_set new s.inc) (more s.inc ∙ set_on (is_at (nat_cmp x) s.inc) (is_in_set old s.inc) there) uncleared))
-        (not_true (is_in_list (ws ++ x ∷ []) s.inc) (λ there. elim (listed_parts ws x s.inc there) [
-          | inl before ↦ true_and_false (is_in_list ws s.inc) before (not_second (is_in_set new s.inc) (is_in_list ws s.inc) passes)
-          | inr same ↦ true_and_false (is_in_set new s.inc) (subst (λ y. IsTrue (is_in_set new y)) (sym same) here) uncleared
-        ]))) in
+    let uncleared : is_in_set new s.inc ≡ false = not_first (is_in_set new s.inc) (is_in_list ws s.inc) passes in
+    neither (is_in_set old s.inc) (is_in_list (ws ++ x ∷ []) s.inc)
+    (not_true (is_in_set old s.inc) (λ there. true_and_false (is_in_set new s.inc) (more s.inc ∙ set_on (is_at (nat_cmp x) s.inc) (is_in_set old s.inc) there) uncleared))
+    (not_true (is_in_list (ws ++ x ∷ []) s.inc) (λ there. elim (listed_parts ws x s.inc there) [
+      | inl before ↦ true_and_false (is_in_list ws s.inc) before (not_second (is_in_set new s.inc) (is_in_list ws s.inc) passes)
+      | inr same ↦ true_and_false (is_in_set new s.inc) (subst (λ y. IsTrue (is_in_set new y)) (sym same) here) uncleared
+    ]))) in
     back_less (length (filter (λ r. not (is_in_set new r.inc) && not (is_in_list ws r.inc)) rows)) (length (filter (λ r. not (is_in_set old r.inc) && not (is_in_list (ws ++ x ∷ []) r.inc)) rows)) (length (ws ++ x ∷ [])) (length ws) fewer (length-append ws (x ∷ []))
 
 -- ---- one look
