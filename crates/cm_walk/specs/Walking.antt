@@ -8,7 +8,6 @@ use Rattle.cm_names.specs.Path.{joined_text}
 use Rattle.cm_decl.specs.Clashes.{or_else}
 use Rattle.cm_decl.specs.declared.origin.Origin.{Origin}
 use Rattle.cm_world.specs.declared.row.Row.{Row}
-use Rattle.cm_world.specs.declared.frame.Builtin.{Builtin}
 use Rattle.cm_world.specs.declared.route.StepKind.{StepKind}
 use Rattle.cm_world.specs.declared.route.StepKind.TheVariants.{FrameworkHop}
 use Rattle.cm_world.specs.declared.route.Walked.{Walked}
@@ -18,7 +17,7 @@ use Rattle.cm_world.specs.declared.route.Hop.{Hop}
 use Rattle.cm_world.specs.Rows.{moniker_of}
 use Rattle.cm_world.specs.Stations as world
 use Rattle.cm_world.specs.NextStation as spec
-use Rattle.cm_world.specs.Route.{Named, First, NoUse, NoneExposed, trial, trial_by, said_by, standing}
+use Rattle.cm_world.specs.Route.{Named, First, NoUse, NoneExposed, standing}
 use Rattle.cm_world.specs.Route.{asked_rights, is_use, weak_availability, weak_rights}
 use Rattle.cm_walk.specs.declared.station.HopStation.{HopStation}
 use Rattle.cm_walk.specs.declared.station.StationSource.{StationSource}
@@ -26,8 +25,6 @@ use Rattle.cm_walk.specs.declared.station.StationSource.TheVariants.{Row as From
 use Rattle.cm_walk.specs.declared.next.NextOnWalk.{NextOnWalk}
 use Rattle.cm_walk.specs.declared.next.NextOnWalk.TheVariants.{To, Ends, Needs, FromVoid, NoChild, Misses}
 use Rattle.cm_walk.specs.declared.trail.Trail.{Trail}
-use Rattle.cm_walk.specs.declared.walking.Step.{Step}
-use Rattle.cm_walk.specs.declared.walking.Step.TheVariants.{On, Done}
 use Rattle.cm_walk.specs.declared.walking.Begun.{Begun}
 use Rattle.cm_walk.specs.declared.walking.Begun.TheVariants as begun
 
@@ -111,32 +108,11 @@ pub record IsBehind (prefix : List world.Station) (s : world.Station) (t : Trail
   pub from_use : t.from_use ≡ begins_with_use (prefix ++ s ∷ [])
   pub asked : t.asked ≡ asked_rights (prefix ++ s ∷ [])
 
--- what the next of a station decides: the walk goes on to another station with this trail, or has an
--- answer
-abbrev pub NextLeads : List world.Station → world.Station → spec.NextStation → Trail → Step → Type 0
-NextLeads prefix s next t (On u) = (next ≡ spec.To (as_station u))
-    × IsBehind (prefix ++ s ∷ []) (as_station u) t
-NextLeads prefix s next t (Done v) = said_by prefix s next ≡ Some v
-
 -- what refuses a station before its next is looked at: a child that isn't there, or a hop that is too
 -- weak
 abbrev pub refused : List world.Station → world.Station → spec.NextStation → Option Walked
 refused prefix s spec.NoChild = Some (Failed s.hop NoInstance)
 refused prefix s _ = or_else (weak_availability prefix s) (weak_rights prefix s)
-
--- what is decided at a station with this next: the walk goes on with this trail, or has an answer
-abbrev pub Decides : List world.Station → world.Station → spec.NextStation → Trail → Step → Type 0
-Decides prefix s next t (On u) =
-    (trial_by prefix s next ≡ None) × (next ≡ spec.To (as_station u))
-    × IsBehind (prefix ++ s ∷ []) (as_station u) t
-Decides prefix s next t (Done v) = trial_by prefix s next ≡ Some v
-
--- one step of a walk in this tree: it goes on to the next station with this trail, or has an answer
-abbrev pub StepsAlong : List Row → List Builtin → List world.Station → world.Station → Trail → Step → Type 0
-StepsAlong rows builtins prefix s t (On u) =
-    (trial rows builtins prefix s ≡ None) × (spec.next_of rows builtins s ≡ spec.To (as_station u))
-    × IsBehind (prefix ++ s ∷ []) (as_station u) t
-StepsAlong rows builtins prefix s t (Done v) = trial rows builtins prefix s ≡ Some v
 
 -- the path of a capability with the subdirectories from its provider on
 abbrev pub path_at : StepKind → List ℕ → List (List ℕ) → List ℕ

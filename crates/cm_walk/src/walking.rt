@@ -4,7 +4,6 @@ ghost use Rattle.std.specs.Prelude.{◌≡◌, List as Seq, Some, IfOk, find, op
 ghost use Rattle.std.specs.Option.{option_copied};
 ghost use Rattle.std.specs.Str.{bytes_eq};
 ghost use Rattle.cm_world.specs.declared.route.Walked.TheVariants as walked;
-ghost use Rattle.cm_walk.specs.declared.walking.Step.TheVariants as step;
 ghost use Rattle.cm_world.specs.NextStation as to;
 ghost use Rattle.cm_world.specs.Route as spec;
 ghost use Rattle.cm_world.specs.Rows.{decl_of};
@@ -12,8 +11,7 @@ ghost use Rattle.cm_world.specs.Stations.{Station as Place};
 ghost use Rattle.cm_world.specs.Sound.{IsOrderly};
 ghost use Rattle.cm_world.specs.Ending.{KeepsDown};
 ghost use Rattle.cm_walk.specs.Walking.{as_station, as_next, as_named};
-ghost use Rattle.cm_walk.specs.Walking.{EndsAt, IsBehind, IsHopPlaced, refused, NextLeads, Decides};
-ghost use Rattle.cm_walk.specs.Walking.{StepsAlong};
+ghost use Rattle.cm_walk.specs.Walking.{IsBehind, IsHopPlaced, refused};
 
 use crate::find;
 use crate::hop::{bare_hop, moniker};
@@ -24,15 +22,6 @@ use cm_decl::{Decl, Kind, Usage};
 use cm_names::{CapPath, Memory, Name, Shared};
 use cm_world::{Hop, Start, StepKind, View, Walked, Why};
 use std::alloc::Global;
-
-/// What one step of a walk comes to.
-#[derive(Drop)]
-pub(crate) enum Step<'a> {
-    /// Nothing is decided at the station, and the walk goes on to this one.
-    On(HopStation<'a>),
-    /// This is decided.
-    Done(Walked),
-}
 
 /// What a start names.
 #[derive(Drop)]
@@ -83,20 +72,12 @@ fn failed(alloc: Global, hop: Hop, why: Why) -> Result<Walked, Memory>
     Ok(Walked::Failed(hop, why))
 }
 
-/// The end of a walk that fails at this hop.
-fn done_failed<'a>(alloc: Global, hop: Hop, why: Why) -> Result<Step<'a>, Memory>
-    ensures { IfOk result (λ made. made ≡ step.Done (walked.Failed hop why)) }
-{
-    let walked = failed(alloc, hop, why)?;
-    Ok(Step::Done(walked))
-}
-
-/// The end of a walk at this hop, which leaves the capability out on purpose.
-fn done_void<'a>(alloc: Global, hop: Hop) -> Result<Step<'a>, Memory>
-    ensures { IfOk result (λ made. made ≡ step.Done (walked.Void hop)) }
+/// The walk that ends at this hop, which leaves the capability out on purpose.
+fn voided(alloc: Global, hop: Hop) -> Result<Walked, Memory>
+    ensures { IfOk result (λ made. made ≡ walked.Void hop) }
 {
     let hop = Shared::new(alloc, hop)?;
-    Ok(Step::Done(Walked::Void(hop)))
+    Ok(Walked::Void(hop))
 }
 
 /// What the start names.
@@ -215,42 +196,21 @@ fn follow<'a, V: View>(alloc: Global, view: &'a V, first: HopStation<'a>) -> Res
     let mut trail = Trail::new(alloc, &first.hop)?;
     let mut here = first;
     'walk: loop {
-        match try_station(alloc, view, &mut trail, here)? {
-            Step::On(next) => here = next,
-            Step::Done(walked) => return Ok(walked),
+        let next = next_of(alloc, view, &here)?;
+        if let Some(why) = refusal(&trail, &here.hop, &next) {
+            return failed(alloc, here.into_hop(), why);
         }
-    }
-}
-
-/// Tries the station after this trail, and goes on to the next one where nothing is decided.
-fn try_station<'a, V: View>(
-    alloc: Global,
-    view: &'a V,
-    trail: &mut Trail,
-    here: HopStation<'a>,
-) -> Result<Step<'a>, Memory>
-    requires placed { IsHopPlaced (V.rows view.now) here.hop }
-    ensures { IfOk result (λ step. (prefix : Seq Place) → IsBehind prefix (as_station here.entry) trail.old
-        → StepsAlong (V.rows view.now) (V.builtins view.now) prefix (as_station here.entry) trail.new step) }
-{
-    let next = next_of(alloc, view, &here)?;
-    decide(alloc, trail, here, next)
-}
-
-/// Does what is decided at the station whose next this is.
-fn decide<'a>(
-    alloc: Global,
-    trail: &mut Trail,
-    here: HopStation<'a>,
-    next: NextOnWalk<'a>,
-) -> Result<Step<'a>, Memory>
-    ensures { IfOk result (λ step. (prefix : Seq Place) → IsBehind prefix (as_station here.entry) trail.old
-        → EndsAt (as_station here.entry) next.entry
-        → Decides prefix (as_station here.entry) (as_next next.entry) trail.new step) }
-{
-    match refusal(trail, &here.hop, &next) {
-        Some(why) => done_failed(alloc, here.into_hop(), why),
-        None => go(alloc, trail, here, next),
+        match next {
+            NextOnWalk::To(station) => {
+                trail.push(here, &station.hop)?;
+                here = station;
+            }
+            NextOnWalk::Ends(path) => return arrive(alloc, &mut trail, here, path),
+            NextOnWalk::Needs(inc) => return Ok(Walked::Need(inc)),
+            NextOnWalk::FromVoid => return voided(alloc, here.into_hop()),
+            NextOnWalk::NoChild => return failed(alloc, here.into_hop(), Why::NoInstance),
+            NextOnWalk::Misses(hop, why) => return failed(alloc, hop, why),
+        }
     }
 }
 
@@ -265,52 +225,18 @@ fn refusal(trail: &Trail, hop: &Hop, next: &NextOnWalk<'_>) -> Option<Why>
     trail.too_weak(hop)
 }
 
-/// Does what the next of the station says by itself.
-fn go<'a>(
-    alloc: Global,
-    trail: &mut Trail,
-    here: HopStation<'a>,
-    next: NextOnWalk<'a>,
-) -> Result<Step<'a>, Memory>
-    ensures { IfOk result (λ step. (prefix : Seq Place) → IsBehind prefix (as_station here.entry) trail.old
-        → EndsAt (as_station here.entry) next.entry
-        → NextLeads prefix (as_station here.entry) (as_next next.entry) trail.new step) }
-{
-    match next {
-        NextOnWalk::To(station) => go_on(trail, here, station),
-        NextOnWalk::Ends(path) => arrive(alloc, trail, here, path),
-        NextOnWalk::Needs(inc) => Ok(Step::Done(Walked::Need(inc))),
-        NextOnWalk::FromVoid => done_void(alloc, here.into_hop()),
-        NextOnWalk::NoChild => done_failed(alloc, here.into_hop(), Why::NoInstance),
-        NextOnWalk::Misses(hop, why) => done_failed(alloc, hop, why),
-    }
-}
-
-/// Goes on to the next station.
-fn go_on<'a>(
-    trail: &mut Trail,
-    here: HopStation<'a>,
-    next: HopStation<'a>,
-) -> Result<Step<'a>, Memory>
-    ensures { IfOk result (λ step. (prefix : Seq Place) → IsBehind prefix (as_station here.entry) trail.old
-        → NextLeads prefix (as_station here.entry) (to.To (as_station next.entry)) trail.new step) }
-{
-    trail.push(here, &next.hop)?;
-    Ok(Step::On(next))
-}
-
 /// Gives the route that ends at this station, which provides the capability at this path.
 fn arrive<'a>(
     alloc: Global,
     trail: &mut Trail,
     here: HopStation<'a>,
     path: CapPath,
-) -> Result<Step<'a>, Memory>
-    ensures { IfOk result (λ step. (prefix : Seq Place) → IsBehind prefix (as_station here.entry) trail.old
+) -> Result<Walked, Memory>
+    ensures { IfOk result (λ walked. (prefix : Seq Place) → IsBehind prefix (as_station here.entry) trail.old
         → path ≡ (as_station here.entry).path
-        → NextLeads prefix (as_station here.entry) to.Ends trail.new step) }
+        → Some walked ≡ spec.said_by prefix (as_station here.entry) to.Ends) }
 {
     let route = trail.take_route(alloc, here.into_hop(), &path)?;
     let route = Shared::new(alloc, route)?;
-    Ok(Step::Done(Walked::Given(route)))
+    Ok(Walked::Given(route))
 }

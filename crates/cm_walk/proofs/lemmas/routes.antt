@@ -1,5 +1,5 @@
 pub mod NoUse
 pub mod Sources
 pub mod Offers
-pub mod StepsAlong
+pub mod Along
 pub mod Trails

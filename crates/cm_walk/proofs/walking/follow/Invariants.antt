@@ -1,6 +1,6 @@
 use Rattle.cm_world.specs.Ending.{steps_left}
 use Rattle.cm_walk.specs.Walking.{as_station}
-use Rattle.cm_walk.proofs.lemmas.routes.StepsAlong.{IsOnWay}
+use Rattle.cm_walk.proofs.lemmas.routes.Along.{IsOnWay}
 use Rattle.cm_walk.proofs.walking.follow.Given as goal
 
 abbrev pub decreases-walk : goal.decreases-walk

@@ -2,7 +2,7 @@ use Rattle.std.proofs.Common.{Some, sym, ◌∙◌, ap}
 use Rattle.cm_world.specs.declared.route.Why.TheVariants.{NoInstance}
 use Rattle.cm_world.specs.declared.route.Walked.TheVariants as walked
 use Rattle.cm_walk.specs.Walking.{as_next}
-use Rattle.cm_walk.proofs.lemmas.routes.StepsAlong.{refused_child, refused_weak}
+use Rattle.cm_walk.proofs.lemmas.routes.Along.{refused_child, refused_weak}
 use Rattle.cm_walk.proofs.walking.refusal.Goals as goal
 
 pub returns-then-is_no_child : goal.returns-then-is_no_child
