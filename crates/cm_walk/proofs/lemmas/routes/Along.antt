@@ -103,12 +103,11 @@ module _ (rows : List Row) (next : ℕ) (builtins : List Builtin) (first : world
   -- A walk goes on from a station that isn't refused to the one that follows it.
   onward : (there : HopStation) (n : NextOnWalk) → as_next n ≡ next_of rows builtins (as_station here) → n ≡ on_walk.To there → Refuses here.hop t (as_next n) None → (next_of rows builtins (as_station here) ≡ To (as_station there)) × (trial rows builtins way.prefix (as_station here) ≡ None)
   onward there n follows to refuses =
-      let on : To (as_station there) ≡ next_of rows builtins (as_station here) = ap as_next (sym to) ∙ follows in
-      (
+      let on : To (as_station there) ≡ next_of rows builtins (as_station here) = ap as_next (sym to) ∙ follows in (
         sym on,
         ap (trial_by way.prefix (as_station here)) (sym follows)
-        ∙ at_fitting way.prefix (as_station here) (as_next n) (refuses way.prefix (as_station here) refl way.behind)
-        ∙ ap (said_by way.prefix (as_station here)) (ap as_next to),
+            ∙ at_fitting way.prefix (as_station here) (as_next n) (refuses way.prefix (as_station here) refl way.behind)
+            ∙ ap (said_by way.prefix (as_station here)) (ap as_next to),
       )
 
   -- it goes on to the next station
