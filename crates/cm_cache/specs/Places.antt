@@ -5,15 +5,19 @@ use Rattle.std.specs.Prelude.{option_and_then, if◌then◌else◌}
 use Rattle.std.specs.Ordering.{nat_cmp}
 use Rattle.std.specs.Cmp.Lexicographic.{slice_cmp}
 use Rattle.std.specs.BTreeMap.{BTreeMap, get}
+use Rattle.std.specs.Str.{bytes_eq}
 use Rattle.cm_cache.specs.declared.cache.Cache.TheInside.{Inside}
+use Rattle.cm_cache.specs.declared.places.Paths.{Paths}
 use Rattle.cm_cache.specs.AnswersInside.{is_of}
 
--- the place of the answer for a path, in the index of one instance
-abbrev pub place_at : BTreeMap (List ℕ) ℕ → List ℕ → Option ℕ
-place_at paths path = get (slice_cmp nat_cmp) paths path
+-- the place of the answer for a path, in the index of one instance: of the use that was asked for first, or
+-- of another one
+abbrev pub place_at : Paths → List ℕ → Option ℕ
+place_at paths path =
+    if bytes_eq paths.first path then Some paths.place else get (slice_cmp nat_cmp) paths.others path
 
 -- the place of the answer for the use of a path by instance i, in the whole index
-abbrev pub placed : BTreeMap ℕ (BTreeMap (List ℕ) ℕ) → ℕ → List ℕ → Option ℕ
+abbrev pub placed : BTreeMap ℕ Paths → ℕ → List ℕ → Option ℕ
 placed places i path = option_and_then (λ paths. place_at paths path) (get nat_cmp places i)
 
 -- the place of the first item that passes a test, counted from 0

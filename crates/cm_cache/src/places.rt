@@ -8,14 +8,33 @@ use cm_names::{CapPath, Memory};
 use std::alloc::Global;
 use std::collections::BTreeMap;
 
-/// The numbers of an instance's uses, by their paths.
-pub(crate) type Paths = BTreeMap<CapPath, usize>;
+/// The numbers of an instance's uses. The one that was asked for first has its place here, since most
+/// instances have no other: so it takes no memory beside the index.
+#[derive(Drop)]
+pub(crate) struct Paths {
+    /// The path of the use that was asked for first.
+    first: CapPath,
+    /// Its number.
+    place: usize,
+    /// The numbers of all others, by their paths.
+    others: BTreeMap<CapPath, usize>,
+}
+
+/// Whether the path is that of the use which was asked for first.
+fn is_first(paths: &Paths, path: &CapPath) -> bool
+    ensures { result ≡ bytes_eq paths.now.first path.now }
+{
+    paths.first.as_str() == path.as_str()
+}
 
 /// The number of the answer for that path, in the index of one instance.
 fn number_of(paths: &Paths, path: &CapPath) -> Option<usize>
     ensures { result ≡ place_at paths.now path.now }
 {
-    match paths.get(path) {
+    if is_first(paths, path) {
+        return Some(paths.place);
+    }
+    match paths.others.get(path) {
         None => None,
         Some(number) => Some(*number),
     }
@@ -37,7 +56,11 @@ fn number(paths: &mut Paths, path: CapPath, place: usize) -> Result<(), Memory>
         ≡ (if bytes_eq path q then Some place else place_at paths.old q)) }
     ensures err { OnErr result ((q : List ℕ) → place_at paths.new q ≡ place_at paths.old q) }
 {
-    paths.insert(path, place)?;
+    if is_first(paths, &path) {
+        paths.place = place;
+        return Ok(());
+    }
+    paths.others.insert(path, place)?;
     Ok(())
 }
 
@@ -55,8 +78,12 @@ fn begin(
         ≡ (if (inc == j) && bytes_eq path q then Some place else placed places.old j q)) }
     ensures err { OnErr result ((j : ℕ) (q : List ℕ) → placed places.new j q ≡ placed places.old j q) }
 {
-    let mut paths = BTreeMap::new(alloc);
-    number(&mut paths, path, place)?;
+    let others = BTreeMap::new(alloc);
+    let paths = Paths {
+        first: path,
+        place,
+        others,
+    };
     places.insert(inc, paths)?;
     Ok(())
 }

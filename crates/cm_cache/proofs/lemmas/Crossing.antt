@@ -10,6 +10,7 @@ use Rattle.cm_cache.specs.contracts.cache.Cache.TheInside as CacheInside
 use Rattle.cm_cache.specs.contracts.keeper.Keeper
 use Rattle.cm_cache.specs.contracts.keeper.Keeper.TheInside as KeeperInside
 use Rattle.cm_cache.specs.contracts.keeper.KeeperParts
+use Rattle.cm_cache.specs.contracts.places.Paths
 use Rattle.cm_names.proofs.path.CapPath.TheSendSync as cap_path
 use Rattle.cm_names.specs.contracts.path.CapPath
 use Rattle.cm_names.specs.contracts.path.CapPathOrd.TheImpl as path_order
@@ -39,19 +40,24 @@ pub cached_answer_send : IsSend CachedAnswer.the_row
 cached_answer_send = send.recorded_send (CachedAnswer.the_field).row _ _ (CachedAnswer.the_type).to_one
     cached_answer_field_send
 
--- what an instance's paths lead to
-abbrev paths : RattleType
-paths = BTreeMap.the_row CapPath.the_row Builtin.usize Global.the_row path_order.ghosts path_equality.ghosts
+-- what the other paths of an instance lead to
+abbrev others : RattleType
+others = BTreeMap.the_row CapPath.the_row Builtin.usize Global.the_row path_order.ghosts path_equality.ghosts
     path_partial_order.ghosts heap_impl.ghosts
 
--- The index of one instance's paths may go to another thread.
-paths_send : IsSend paths
-paths_send = map.the_send CapPath.the_row Builtin.usize Global.the_row path_order.ghosts path_equality.ghosts
+-- The index of an instance's other paths may go to another thread.
+others_send : IsSend others
+others_send = map.the_send CapPath.the_row Builtin.usize Global.the_row path_order.ghosts path_equality.ghosts
     path_partial_order.ghosts heap_impl.ghosts cap_path.the_send (send.plain_send _ _ _ _ _) global.the_send heap.the_frees
 
+-- The numbers of one instance's paths may go to another thread.
+paths_send : IsSend Paths.the_row
+paths_send = send.recorded_send (Paths.the_field).row _ _ (Paths.the_type).to_one
+    (send.struct_send (struct.shape Paths.the_type) (cap_path.the_send, (send.plain_send _ _ _ _ _, (others_send, tt))))
+
 -- The index of the places of all instances may go to another thread.
-places_send : IsSend (BTreeMap.the_row Builtin.u64 paths Global.the_row number_order.ghosts number_equality.ghosts number_partial_order.ghosts heap_impl.ghosts)
-places_send = map.the_send Builtin.u64 paths Global.the_row number_order.ghosts number_equality.ghosts
+places_send : IsSend (BTreeMap.the_row Builtin.u64 Paths.the_row Global.the_row number_order.ghosts number_equality.ghosts number_partial_order.ghosts heap_impl.ghosts)
+places_send = map.the_send Builtin.u64 Paths.the_row Global.the_row number_order.ghosts number_equality.ghosts
     number_partial_order.ghosts heap_impl.ghosts (send.plain_send _ _ _ _ _) paths_send global.the_send heap.the_frees
 
 -- A cache may go to another thread.

@@ -9,6 +9,7 @@ use Rattle.cm_decl.specs.Clashes.{or_else}
 use Rattle.cm_world.specs.declared.route.Walked.{Walked}
 use Rattle.cm_world.specs.Edits.{edit_first}
 use Rattle.cm_cache.specs.declared.answer.CachedAnswer.{CachedAnswer}
+use Rattle.cm_cache.specs.declared.places.Paths.{Paths}
 use Rattle.cm_cache.specs.Answers.{most}
 use Rattle.cm_cache.specs.AnswersInside.{answer_of, is_of, kept_at, with_walked, put_in}
 use Rattle.cm_cache.specs.Places.{placed, place_of}
@@ -31,17 +32,17 @@ or_none None = refl
 or_none (Some n) = refl
 
 -- each use has the number of the place of its answer
-abbrev Placed : BTreeMap ℕ (BTreeMap (List ℕ) ℕ) → List CachedAnswer → Type 0
+abbrev Placed : BTreeMap ℕ Paths → List CachedAnswer → Type 0
 Placed places xs = (i : ℕ) (path : List ℕ) → placed places i path ≡ place_of (is_of i path) xs
 
 -- ---- an answer that is there, or isn't
 
 -- The place that the index tells for a use is that of the first answer for it.
-pub placed_is : (places : BTreeMap ℕ (BTreeMap (List ℕ) ℕ)) (xs : List CachedAnswer) (i : ℕ) (path : List ℕ) (k : ℕ) → Placed places xs → placed places i path ≡ Some k → IsAt (is_of i path) xs k
+pub placed_is : (places : BTreeMap ℕ Paths) (xs : List CachedAnswer) (i : ℕ) (path : List ℕ) (k : ℕ) → Placed places xs → placed places i path ≡ Some k → IsAt (is_of i path) xs k
 placed_is places xs i path k each e = place_is (is_of i path) xs k (sym (each i path) ∙ e)
 
 -- Where the index has no place for a use, no answer is kept for it.
-pub kept_none : (places : BTreeMap ℕ (BTreeMap (List ℕ) ℕ)) (xs : List CachedAnswer) (i : ℕ) (path : List ℕ) → Placed places xs → placed places i path ≡ None → kept_at xs i path ≡ None
+pub kept_none : (places : BTreeMap ℕ Paths) (xs : List CachedAnswer) (i : ℕ) (path : List ℕ) → Placed places xs → placed places i path ≡ None → kept_at xs i path ≡ None
 kept_none places xs i path each e = ap (option_map (λ a. a.walked)) (unplaced (is_of i path) xs (sym (each i path) ∙ e))
 
 -- What is kept for a use is what the first answer for it says that the walk came to.
@@ -51,20 +52,20 @@ kept_some xs i path k x at read = ap (option_map (λ a. a.walked)) (at.found x �
 -- ---- an answer in the place of another
 
 -- To set the answer at the place of a use is to edit the first answer for that use.
-pub rewritten : (places : BTreeMap ℕ (BTreeMap (List ℕ) ℕ)) (xs : List CachedAnswer) (i : ℕ) (path : List ℕ) (v : Walked) (k : ℕ) (x : CachedAnswer) → Placed places xs → placed places i path ≡ Some k → x ≡ get_or xs k x → set xs k (with_walked v x) ≡ edit_first (is_of i path) (with_walked v) xs
+pub rewritten : (places : BTreeMap ℕ Paths) (xs : List CachedAnswer) (i : ℕ) (path : List ℕ) (v : Walked) (k : ℕ) (x : CachedAnswer) → Placed places xs → placed places i path ≡ Some k → x ≡ get_or xs k x → set xs k (with_walked v x) ≡ edit_first (is_of i path) (with_walked v) xs
 rewritten places xs i path v k x each e read =
     let at : IsAt (is_of i path) xs k = placed_is places xs i path k each e in
     set_at_place (is_of i path) (with_walked v) xs k (with_walked v x) (sym (each i path) ∙ e)
     (ap (with_walked v) (read ∙ get_or_default xs k x (with_walked v x) at.bound))
 
 -- the places stay
-pub placed_rewritten : (places : BTreeMap ℕ (BTreeMap (List ℕ) ℕ)) (xs : List CachedAnswer) (i : ℕ) (path : List ℕ) (v : Walked) (k : ℕ) (x : CachedAnswer) → Placed places xs → placed places i path ≡ Some k → x ≡ get_or xs k x → Placed places (set xs k (with_walked v x))
+pub placed_rewritten : (places : BTreeMap ℕ Paths) (xs : List CachedAnswer) (i : ℕ) (path : List ℕ) (v : Walked) (k : ℕ) (x : CachedAnswer) → Placed places xs → placed places i path ≡ Some k → x ≡ get_or xs k x → Placed places (set xs k (with_walked v x))
 placed_rewritten places xs i path v k x each e read j q =
     each j q ∙ sym (place-edited (is_of j q) (is_of i path) (with_walked v) (λ a. refl) xs)
     ∙ ap (place_of (is_of j q)) (sym (rewritten places xs i path v k x each e read))
 
 -- To set the answer at the place of a use is what a put for that use does.
-pub put_rewritten : (places : BTreeMap ℕ (BTreeMap (List ℕ) ℕ)) (xs : List CachedAnswer) (i : ℕ) (path : List ℕ) (v : Walked) (k : ℕ) (x : CachedAnswer) → Placed places xs → placed places i path ≡ Some k → x ≡ get_or xs k x → set xs k (with_walked v x) ≡ put_in xs i path v
+pub put_rewritten : (places : BTreeMap ℕ Paths) (xs : List CachedAnswer) (i : ℕ) (path : List ℕ) (v : Walked) (k : ℕ) (x : CachedAnswer) → Placed places xs → placed places i path ≡ Some k → x ≡ get_or xs k x → set xs k (with_walked v x) ≡ put_in xs i path v
 put_rewritten places xs i path v k x each e read =
     rewritten places xs i path v k x each e read
     ∙ sym (put_there xs i path v x.walked (kept_some xs i path k x (placed_is places xs i path k each e) read))
@@ -80,7 +81,7 @@ joined_by true xs i path j q k o same none last is =
 joined_by false xs i path j q k o same none last is = is ∙ sym (or_none (place_of (is_of j q) xs))
 
 -- With one more answer at the end, whose use gets that place, the index is still right for all uses.
-pub placed_joined : (old new : BTreeMap ℕ (BTreeMap (List ℕ) ℕ)) (xs : List CachedAnswer) (i : ℕ) (path : List ℕ) (v : Walked) (k : ℕ) → Placed old xs → kept_at xs i path ≡ None → k ≡ length xs → ((j : ℕ) (q : List ℕ) → placed new j q ≡ cond (same_use i path j q) (Some k) (placed old j q)) → Placed new (xs ++ answer_of i path v ∷ [])
+pub placed_joined : (old new : BTreeMap ℕ Paths) (xs : List CachedAnswer) (i : ℕ) (path : List ℕ) (v : Walked) (k : ℕ) → Placed old xs → kept_at xs i path ≡ None → k ≡ length xs → ((j : ℕ) (q : List ℕ) → placed new j q ≡ cond (same_use i path j q) (Some k) (placed old j q)) → Placed new (xs ++ answer_of i path v ∷ [])
 placed_joined old new xs i path v k each none last puts j q =
     puts j q ∙ joined_by (same_use i path j q) xs i path j q k (placed old j q) refl none last (each j q)
     ∙ sym (place_push (is_of j q) xs (answer_of i path v))

@@ -4,10 +4,12 @@ use Rattle.std.specs.Ordering.{nat_cmp}
 use Rattle.std.specs.Cmp.Lexicographic.{slice_cmp}
 use Rattle.std.specs.BTreeMap.{BTreeMap, get}
 use Rattle.std.proofs.lemmas.Map.Text.{is_eq-slice_cmp}
+use Rattle.std.proofs.lemmas.Slice.Eq.{bytes_eq-Decides}
 use Rattle.std.proofs.lemmas.Map.Lookups.{exact_unsigned}
 use Rattle.std.proofs.lemmas.Option.{same_Some, none-some}
 use Rattle.cm_decl.specs.Clashes.{or_else}
 use Rattle.cm_world.specs.Edits.{edit_first}
+use Rattle.cm_cache.specs.declared.places.Paths.{Paths}
 use Rattle.cm_cache.specs.Places.{place_at, placed, place_of}
 
 -- ---- the place of an item
@@ -119,9 +121,39 @@ module _ {A : Type 0} (p : A → Bool) where
 
 -- ---- numbers by the use of an instance
 
+-- Of two tests that don't both hold the order doesn't matter.
+either_first : (a b : Bool) (x y z : Option ℕ) → (a ≡ true → b ≡ false) → cond a x (cond b y z) ≡ cond b y (cond a x z)
+either_first true true x y z apart = absurd (true≢false (apart refl))
+either_first true false x y z apart = refl
+either_first false b x y z apart = refl
+
+-- A truth value that isn't true is false.
+not_so : (b : Bool) → (b ≡ true → ⊥) → b ≡ false
+not_so true never = absurd (never refl)
+not_so false never = refl
+
+-- A text that is the first isn't another one.
+apart_from : (first path q : List ℕ) → bytes_eq first path ≡ false → bytes_eq first q ≡ true → bytes_eq path q ≡ false
+apart_from first path q other is =
+    let same : first ≡ q = (bytes_eq-Decides first q).0 is in
+    not_so (bytes_eq path q) (λ e. true≢false (sym ((bytes_eq-Decides first path).1 (same ∙ sym ((bytes_eq-Decides path q).0 e))) ∙ other))
+
+-- A test that is made twice says the same twice.
+twice : (b : Bool) (x y z : Option ℕ) → cond b x z ≡ cond b x (cond b y z)
+twice true x y z = refl
+twice false x y z = refl
+
+-- the first path has another number
+pub first_put : (first : List ℕ) (place : ℕ) (m : BTreeMap (List ℕ) ℕ) (path : List ℕ) (k : ℕ) → bytes_eq first path ≡ true → (q : List ℕ) → cond (bytes_eq first q) (Some k) (get (slice_cmp nat_cmp) m q) ≡ cond (bytes_eq path q) (Some k) (cond (bytes_eq first q) (Some place) (get (slice_cmp nat_cmp) m q))
+first_put first place m path k same q =
+    subst (λ p. cond (bytes_eq first q) (Some k) (get (slice_cmp nat_cmp) m q) ≡ cond (bytes_eq p q) (Some k) (cond (bytes_eq first q) (Some place) (get (slice_cmp nat_cmp) m q)))
+    ((bytes_eq-Decides first path).0 same) (twice (bytes_eq first q) (Some k) (Some place) (get (slice_cmp nat_cmp) m q))
+
 -- one path more has a number
-pub number_put : (m n : BTreeMap (List ℕ) ℕ) (path : List ℕ) (k : ℕ) → ((q : List ℕ) → place_at n q ≡ cond (is_eq (slice_cmp nat_cmp path q)) (Some k) (place_at m q)) → (q : List ℕ) → place_at n q ≡ cond (bytes_eq path q) (Some k) (place_at m q)
-number_put m n path k puts q = puts q ∙ ap (λ t. cond t (Some k) (place_at m q)) (is_eq-slice_cmp path q)
+pub number_put : (first : List ℕ) (place : ℕ) (m n : BTreeMap (List ℕ) ℕ) (path : List ℕ) (k : ℕ) → bytes_eq first path ≡ false → ((q : List ℕ) → get (slice_cmp nat_cmp) n q ≡ cond (is_eq (slice_cmp nat_cmp path q)) (Some k) (get (slice_cmp nat_cmp) m q)) → (q : List ℕ) → cond (bytes_eq first q) (Some place) (get (slice_cmp nat_cmp) n q) ≡ cond (bytes_eq path q) (Some k) (cond (bytes_eq first q) (Some place) (get (slice_cmp nat_cmp) m q))
+number_put first place m n path k other puts q =
+    ap (cond (bytes_eq first q) (Some place)) (puts q ∙ ap (λ t. cond t (Some k) (get (slice_cmp nat_cmp) m q)) (is_eq-slice_cmp path q))
+    ∙ either_first (bytes_eq first q) (bytes_eq path q) (Some place) (Some k) (get (slice_cmp nat_cmp) m q) (apart_from first path q other)
 
 -- An order that says equal is the equal one.
 equal_by : (o : Ordering) → is_eq o ≡ true → o ≡ Equal
@@ -130,13 +162,13 @@ equal_by Equal e = refl
 equal_by Greater e = absurd (true≢false (sym e))
 
 -- Where an instance's index is put anew with the same place for a path, that place stays.
-same_by : (t : Bool) (i j : ℕ) (was now : BTreeMap (List ℕ) ℕ) (o : Option (BTreeMap (List ℕ) ℕ)) (q : List ℕ) → is_eq (nat_cmp i j) ≡ t → (i ≡ j → o ≡ Some was) → place_at now q ≡ place_at was q → option_and_then (λ paths. place_at paths q) (cond t (Some now) o) ≡ option_and_then (λ paths. place_at paths q) o
+same_by : (t : Bool) (i j : ℕ) (was now : Paths) (o : Option Paths) (q : List ℕ) → is_eq (nat_cmp i j) ≡ t → (i ≡ j → o ≡ Some was) → place_at now q ≡ place_at was q → option_and_then (λ paths. place_at paths q) (cond t (Some now) o) ≡ option_and_then (λ paths. place_at paths q) o
 same_by true i j was now o q is there same =
     same ∙ sym (ap (λ x. option_and_then (λ paths. place_at paths q) x) (there (exact_unsigned i j (equal_by (nat_cmp i j) is))))
 same_by false i j was now o q is there same = refl
 
 -- the numbers of one instance, written back as they were
-pub written_back : (m n : BTreeMap ℕ (BTreeMap (List ℕ) ℕ)) (i : ℕ) (was now : BTreeMap (List ℕ) ℕ) → get nat_cmp m i ≡ Some was → ((j : ℕ) → get nat_cmp n j ≡ cond (is_eq (nat_cmp i j)) (Some now) (get nat_cmp m j)) → ((q : List ℕ) → place_at now q ≡ place_at was q) → (j : ℕ) (q : List ℕ) → placed n j q ≡ placed m j q
+pub written_back : (m n : BTreeMap ℕ Paths) (i : ℕ) (was now : Paths) → get nat_cmp m i ≡ Some was → ((j : ℕ) → get nat_cmp n j ≡ cond (is_eq (nat_cmp i j)) (Some now) (get nat_cmp m j)) → ((q : List ℕ) → place_at now q ≡ place_at was q) → (j : ℕ) (q : List ℕ) → placed n j q ≡ placed m j q
 written_back m n i was now there writes same j q =
     ap (option_and_then (λ paths. place_at paths q)) (writes j)
     ∙ same_by (is_eq (nat_cmp i j)) i j was now (get nat_cmp m j) q refl (λ e. subst (λ k. get nat_cmp m k ≡ Some was) e there) (same q)
