@@ -1,7 +1,7 @@
 -- Promised.
 -- The manifests that a script brings itself: a list of blocks, each with its URL's text as key and its
 -- bytes.
-use Rattle.std.specs.Prelude.{ℕ, List, [], ◌∷◌, ◌++◌, map, Option, Result, Ok, Err, is_some}
+use Rattle.std.specs.Prelude.{◌≡◌, ℕ, List, [], ◌∷◌, ◌++◌, map, Option, Result, Ok, Err, is_some, IsTrue}
 use Rattle.std.specs.Prelude.{String, string_bytes, if◌then◌else◌}
 use Rattle.std.specs.Map.{lookup}
 use Rattle.std.specs.Result.{result_map_both}
@@ -9,6 +9,7 @@ use Rattle.std.specs.Str.{bytes_eq}
 use Rattle.std.specs.declared.alloc.Global.{Global}
 use Rattle.cm_names.specs.Steps.{◌>>=◌}
 use Rattle.cm_repo.specs.Urls.{key_of}
+use Rattle.cm_repo.specs.declared.repository.KeptBlock.{KeptBlock}
 use Rattle.cm_repo.specs.declared.fault.UrlFault.{UrlFault}
 use Rattle.cm_repo.specs.declared.fault.UrlFault.TheVariants as url
 use Rattle.cm_repo.specs.declared.fault.RepoFault.{RepoFault}
@@ -19,8 +20,12 @@ abbrev pub Blocks : Type 0
 Blocks = List (List ℕ × List ℕ)
 
 -- the blocks that a map's entries stand for
-abbrev pub blocks_of : List (String Global × List ℕ) → Blocks
-blocks_of entries = map (λ entry. (string_bytes entry.0, entry.1)) entries
+abbrev pub blocks_of : List (String Global × KeptBlock) → Blocks
+blocks_of entries = map (λ entry. (string_bytes entry.0, entry.1.bytes)) entries
+
+-- the text of a key is its own URL's, where its block came under this very text
+abbrev pub IsOwnKey : String Global × KeptBlock → Type 0
+IsOwnKey entry = IsTrue entry.1.verbatim → key_of (string_bytes entry.0) ≡ Ok (string_bytes entry.0)
 
 -- the bytes with this key, if there are some
 abbrev pub block_at : Blocks → List ℕ → Option (List ℕ)

@@ -2,7 +2,6 @@
 -- What one more block changes.
 use Rattle.std.specs.Prelude.{◌≡◌, ◌≢◌, ℕ, List, Some, Ok}
 use Rattle.cm_repo.specs.Urls.{key_of}
-use Rattle.cm_repo.specs.declared.fault.UrlFault.TheVariants as url
 use Rattle.cm_repo.specs.Blocks.{Blocks, block_at}
 
 -- this block is found by its URL, and by every other URL what was found before

@@ -1,10 +1,11 @@
 //! Manifests by URL.
 
-ghost use Rattle.std.specs.Prelude.{◌≡◌, [], Ok, OnOk, OnErr, IfOk, IfErr, string_bytes};
+ghost use Rattle.std.specs.Prelude.{◌≡◌, [], Ok, OnOk, OnErr, IfOk, IfErr, IsTrue, string_bytes};
 ghost use Rattle.std.specs.Option.{option_copied};
 ghost use Rattle.cm_repo.specs.Answers.{IsRepoRefusal};
 ghost use Rattle.cm_repo.specs.Blocks.{added, block_at};
 ghost use Rattle.cm_repo.specs.BlocksInside.{FindsAlso};
+ghost use Rattle.cm_repo.specs.Urls.{key_of};
 ghost use Rattle.cm_repo.specs.declared.fault.RepoFault.TheVariants.{Memory};
 
 use crate::RepoFault;
@@ -14,21 +15,33 @@ use indexmap::IndexMap;
 use std::alloc::Global;
 use std::marker::Model;
 
+/// What stands under a key.
+#[derive(Drop)]
+pub(crate) struct KeptBlock {
+    /// The bytes of the manifest.
+    pub bytes: Bytes,
+    /// Whether the block came under the very text that is its key.
+    pub verbatim: bool,
+}
+
 /// The bytes of manifests by the text of their URLs, in the order in which they came.
 ///
 /// Contracts see it as the list of its blocks, each a key and its bytes.
 #[derive(Drop)]
 pub struct Repository {
-    alloc: Global,
-    blocks: IndexMap<String, Bytes>,
+    pub(crate) alloc: Global,
+    blocks: IndexMap<String, KeptBlock>,
 }
 
 impl Model for Repository {
-    ghost use Rattle.cm_repo.specs.Blocks.{Blocks, blocks_of};
+    ghost use Rattle.std.specs.Prelude.{All};
+    ghost use Rattle.cm_repo.specs.Blocks.{Blocks, blocks_of, IsOwnKey};
 
     ghost Value = { Blocks };
 
     ghost view = { λ r. blocks_of r.blocks.entries };
+
+    ghost invariant = { λ r. All IsOwnKey r.blocks.entries };
 }
 
 impl Repository {
@@ -47,7 +60,20 @@ impl Repository {
     pub fn find(&self, url: &str) -> Option<&Bytes>
         ensures { option_copied result ≡ block_at self.now url.now }
     {
-        self.blocks.get(url)
+        match self.blocks.get(url) {
+            Some(block) => Some(&block.bytes),
+            None => None,
+        }
+    }
+
+    /// Whether a block came under this very text, which is its key then.
+    pub(crate) fn has_verbatim(&self, url: &str) -> bool
+        ensures { IsTrue result → key_of url.now ≡ Ok url.now }
+    {
+        match self.blocks.get(url) {
+            Some(block) => block.verbatim,
+            None => false,
+        }
     }
 
     /// Puts a block last, under the text of its URL as the URL Standard writes it.
@@ -72,10 +98,18 @@ impl Repository {
         if self.blocks.contains_key(key.as_str()) {
             return Err(RepoFault::Repeated);
         }
+        let verbatim = is_same(key.as_str(), url);
         let text = string_of(key)?;
-        self.blocks.insert(text, bytes)?;
+        self.blocks.insert(text, KeptBlock { bytes, verbatim })?;
         Ok(())
     }
+}
+
+/// Whether a key is the very text that was given for it.
+fn is_same(key: &str, url: &str) -> bool
+    ensures { IsTrue result → key.now ≡ url.now }
+{
+    key == url
 }
 
 /// The key as the string by which the map finds it.

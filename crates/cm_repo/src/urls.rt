@@ -9,7 +9,7 @@ ghost use Rattle.cm_repo.specs.Urls.{accepted, text_of, key_of, begins_with_hash
 ghost use Rattle.cm_repo.specs.UrlsInside as inside;
 ghost use Rattle.cm_repo.specs.declared.fault.UrlFault.TheVariants.{Memory};
 
-use crate::UrlFault;
+use crate::{Repository, UrlFault};
 use cm_names::Text;
 use cm_names::url::is_url_text;
 use std::alloc::Global;
@@ -106,15 +106,6 @@ fn plain_prefix<'a>(base: &'a str, url: &str) -> Option<&'a str>
     Some(prefix)
 }
 
-/// The text of the URL with this prefix and this fragment.
-fn with_fragment(alloc: Global, prefix: &str, url: &str) -> Result<Text, UrlFault>
-    ensures { GivesUnless Memory result (key_of (prefix.now ++ url.now)) }
-{
-    let mut text = Text::from_str(alloc, prefix)?;
-    text.push_str(url)?;
-    key(alloc, text.as_str())
-}
-
 /// The text of a URL that is joined to any base.
 fn joined_to(alloc: Global, base: &str, url: &str) -> Result<Text, UrlFault>
     ensures { GivesUnless Memory result (joined_to base.now url.now) }
@@ -122,19 +113,6 @@ fn joined_to(alloc: Global, base: &str, url: &str) -> Result<Text, UrlFault>
     let base = accepted(Url::parse(alloc, base))?;
     let url = accepted(base.join(url))?;
     text_of(alloc, &url)
-}
-
-/// The text of a fragment that is joined to a base: mostly the base has no query, and is parsed once, with
-/// this fragment in the place of its own.
-#[tactic(auto, using(crate::proofs::lemmas::Url::by_prefix))]
-fn joined(alloc: Global, base: &str, url: &str) -> Result<Text, UrlFault>
-    requires { IsTrue (begins_with_hash url.now) }
-    ensures { GivesUnless Memory result (joined_to base.now url.now) }
-{
-    match plain_prefix(base, url) {
-        Some(prefix) => with_fragment(alloc, prefix, url),
-        None => joined_to(alloc, base, url),
-    }
 }
 
 /// The text of the absolute URL that `url` is on `base`, which is the URL of the component that
@@ -149,12 +127,55 @@ fn joined(alloc: Global, base: &str, url: &str) -> Result<Text, UrlFault>
 ///   isn't a printing one of ASCII, as the space in `foo:a b#x`;
 /// - `NoFragment` where the URL that comes out has no fragment or an empty one;
 /// - `Memory`.
-#[tactic(auto, unfolding(crate::specs::Urls::absolute_of))]
 pub fn absolute(alloc: Global, base: &str, url: &str) -> Result<Text, UrlFault>
     ensures { GivesUnless Memory result (absolute_of base.now url.now) }
 {
-    if !begins_with_hash(url) {
-        return key(alloc, url);
+    let none = Repository::new(alloc);
+    none.absolute(base, url)
+}
+
+impl Repository {
+    /// The text of the URL that stands alone. One under which a block came is its own text, and isn't parsed.
+    fn key(&self, url: Text) -> Result<Text, UrlFault>
+        ensures { GivesUnless Memory result (key_of url) }
+    {
+        if self.has_verbatim(url.as_str()) {
+            return Ok(url);
+        }
+        key(self.alloc, url.as_str())
     }
-    joined(alloc, base, url)
+
+    /// The text of the URL with this prefix and this fragment.
+    fn with_fragment(&self, prefix: &str, url: &str) -> Result<Text, UrlFault>
+        ensures { GivesUnless Memory result (key_of (prefix.now ++ url.now)) }
+    {
+        let mut text = Text::from_str(self.alloc, prefix)?;
+        text.push_str(url)?;
+        self.key(text)
+    }
+
+    /// The text of a fragment that is joined to a base: mostly the base has no query, and is taken with this
+    /// fragment in the place of its own.
+    #[tactic(auto, using(crate::proofs::lemmas::Url::by_prefix))]
+    fn joined(&self, base: &str, url: &str) -> Result<Text, UrlFault>
+        requires { IsTrue (begins_with_hash url.now) }
+        ensures { GivesUnless Memory result (joined_to base.now url.now) }
+    {
+        match plain_prefix(base, url) {
+            Some(prefix) => self.with_fragment(prefix, url),
+            None => joined_to(self.alloc, base, url),
+        }
+    }
+
+    /// The text of the absolute URL that `url` is on `base`, as [`absolute`] gives it. A URL under which a
+    /// block came isn't parsed again.
+    #[tactic(auto, unfolding(crate::specs::Urls::absolute_of))]
+    pub fn absolute(&self, base: &str, url: &str) -> Result<Text, UrlFault>
+        ensures { GivesUnless Memory result (absolute_of base.now url.now) }
+    {
+        if !begins_with_hash(url) {
+            return self.key(Text::from_str(self.alloc, url)?);
+        }
+        self.joined(base, url)
+    }
 }
