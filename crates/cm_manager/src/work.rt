@@ -21,7 +21,7 @@ use cm_decl::Decl;
 use cm_gate::{Fetch, Fetched, Gates, Halted, Job, Launched};
 use cm_names::{List, Memory, Text};
 use cm_read::{ReadFault, read_decl};
-use cm_repo::{UrlFault, absolute};
+use cm_repo::UrlFault;
 use cm_steps::Ending;
 use cm_table::Prepared;
 use cm_turn::Pass;
@@ -215,7 +215,10 @@ impl Manager {
             gates.old gates.new }
         ensures fits { FitsAction ActKind.Resolve (finish_of result) }
     {
-        match absolute(alloc, work.base.as_str(), work.url.as_str()) {
+        match self
+            .repository
+            .absolute(work.base.as_str(), work.url.as_str())
+        {
             Ok(url) => self.find_manifest(rt, alloc, gates, idle, url),
             Err(fault) => match fault {
                 UrlFault::Memory => Ending::Other(Outcome::NoMemory),
