@@ -17,6 +17,7 @@ ghost use Rattle.cm_manager.specs.Gated.{gates_view};
 ghost use Rattle.cm_manager.specs.Turns.{world_after};
 
 use crate::Manager;
+use crate::judged::Judged;
 use cm_gate::Gates;
 use cm_names::List;
 use cm_steps::{Ending, EventRef};
@@ -36,6 +37,8 @@ pub struct Caller<'a, R, G: Gates> {
     /// `None` only within a turn.
     pub(crate) pass: Option<Pass<Entry, Frame>>,
     pub(crate) gates: &'a mut G,
+    /// The manifest of the repository that was judged last for this caller, if it is a valid one.
+    pub(crate) last: Option<Judged<'a>>,
 }
 
 impl<'a, R, G: Gates> Model for Caller<'a, R, G> {
@@ -77,6 +80,7 @@ impl<'a, R: Threads + Wait + Sync, G: Gates> Caller<'a, R, G> {
             manager,
             pass: Some(pass),
             gates,
+            last: None,
         }
     }
 
@@ -92,6 +96,7 @@ impl<'a, R: Threads + Wait + Sync, G: Gates> Caller<'a, R, G> {
             manager: _,
             pass,
             gates,
+            last: _,
         } = self;
         let Some(pass) = pass else { unreachable!() };
         (pass, gates)
@@ -171,7 +176,8 @@ impl<'a, R: Threads + Wait + Sync, G: Gates> Caller<'a, R, G> {
         let Some(idle) = &self.pass else {
             unreachable!()
         };
+        let last = &mut self.last;
         self.manager
-            .do_work(self.rt, self.alloc, self.gates, idle, kind, work)
+            .do_work(self.rt, self.alloc, self.gates, last, idle, kind, work)
     }
 }

@@ -11,6 +11,7 @@ pub mod caller;
 mod calls;
 pub mod desks;
 mod doctor;
+mod judged;
 pub mod laws;
 pub mod manager;
 mod parts;

@@ -17,6 +17,7 @@ ghost use Rattle.cm_manager.specs.Doing.{unread_outcome, invalid_outcome, launch
 ghost use Rattle.cm_manager.specs.Gated.{DidWith};
 
 use crate::Manager;
+use crate::judged::{Judged, judge_unless_last};
 use cm_decl::Decl;
 use cm_gate::{Fetch, Fetched, Gates, Halted, Job, Launched};
 use cm_names::{List, Memory, Text};
@@ -71,7 +72,7 @@ fn invalid(fault: ValidFault) -> Outcome
 }
 
 /// The valid declaration of a manifest, or how a resolve ends without one.
-fn judge(alloc: Global, bytes: &[u8]) -> Result<Decl, Outcome>
+pub(crate) fn judge(alloc: Global, bytes: &[u8]) -> Result<Decl, Outcome>
     ensures judged { JudgesBy bytes.now result }
     ensures valid { IfOk result IsValid }
 {
@@ -84,13 +85,13 @@ fn judge(alloc: Global, bytes: &[u8]) -> Result<Decl, Outcome>
     }
 }
 
-/// The end of a resolve by the bytes of its manifest.
-fn ending_by(alloc: Global, url: Text, bytes: &[u8]) -> Ending
+/// The end of a resolve by the bytes of its manifest, which may be the one that was judged last.
+fn ending_by<'a>(alloc: Global, last: &mut Option<Judged<'a>>, url: Text, bytes: &'a [u8]) -> Ending
     ensures ends { EndsBy url bytes.now (finish_of result) }
     ensures fits { FitsAction ActKind.Resolve (finish_of result) }
 {
-    match judge(alloc, bytes) {
-        Ok(decl) => match Prepared::make(alloc, decl, url) {
+    match judge_unless_last(alloc, last, bytes) {
+        Ok(decl) => match Prepared::of(alloc, decl, url) {
             Ok(prepared) => Ending::Resolved(prepared),
             Err(_) => Ending::Other(Outcome::NoMemory),
         },
@@ -203,11 +204,12 @@ fn halt<R: Threads + Wait + Sync, G: Gates>(
 
 impl Manager {
     /// The work of a resolve, of which the base and the URL of the component are used.
-    fn do_resolve<R: Threads + Wait + Sync, G: Gates>(
-        &self,
+    fn do_resolve<'a, R: Threads + Wait + Sync, G: Gates>(
+        &'a self,
         rt: &R,
         alloc: Global,
         gates: &mut G,
+        last: &mut Option<Judged<'a>>,
         idle: &Pass<Entry, Frame>,
         work: &Work,
     ) -> Ending
@@ -219,7 +221,7 @@ impl Manager {
             .repository
             .absolute(work.base.as_str(), work.url.as_str())
         {
-            Ok(url) => self.find_manifest(rt, alloc, gates, idle, url),
+            Ok(url) => self.find_manifest(rt, alloc, gates, last, idle, url),
             Err(fault) => match fault {
                 UrlFault::Memory => Ending::Other(Outcome::NoMemory),
                 _ => Ending::Other(Outcome::BadUrl),
@@ -228,11 +230,12 @@ impl Manager {
     }
 
     /// The end of a resolve by the manifest of this URL.
-    fn find_manifest<R: Threads + Wait + Sync, G: Gates>(
-        &self,
+    fn find_manifest<'a, R: Threads + Wait + Sync, G: Gates>(
+        &'a self,
         rt: &R,
         alloc: Global,
         gates: &mut G,
+        last: &mut Option<Judged<'a>>,
         idle: &Pass<Entry, Frame>,
         url: Text,
     ) -> Ending
@@ -242,7 +245,7 @@ impl Manager {
         ensures fits { FitsAction ActKind.Resolve (finish_of result) }
     {
         match self.repository.find(url.as_str()) {
-            Some(bytes) => ending_by(alloc, url, bytes.as_slice()),
+            Some(bytes) => ending_by(alloc, last, url, bytes.as_slice()),
             None => self.fetch_manifest(rt, alloc, gates, idle, url),
         }
     }
@@ -278,7 +281,7 @@ impl Manager {
         let answer = gates.fetch(rt, alloc, idle, &what);
         drop(what);
         match answer {
-            Fetched::Found(bytes) => ending_by(alloc, url, bytes.as_slice()),
+            Fetched::Found(bytes) => ending_by(alloc, &mut None, url, bytes.as_slice()),
             Fetched::Absent => Ending::Other(Outcome::Absent),
             Fetched::Failed => Ending::Other(Outcome::GateFailed),
             Fetched::Memory => Ending::Other(Outcome::NoMemory),
@@ -287,11 +290,12 @@ impl Manager {
 
     /// Does the work of an action, with the pass of its caller idle. For a start it gives the
     /// instance's eager children back.
-    pub(crate) fn do_work<R: Threads + Wait + Sync, G: Gates>(
-        &self,
+    pub(crate) fn do_work<'a, R: Threads + Wait + Sync, G: Gates>(
+        &'a self,
         rt: &R,
         alloc: Global,
         gates: &mut G,
+        last: &mut Option<Judged<'a>>,
         idle: &Pass<Entry, Frame>,
         kind: ActKind,
         work: Work,
@@ -304,7 +308,7 @@ impl Manager {
         self.permit.give_back(idle.caller());
         match kind {
             ActKind::Resolve => {
-                let ending = self.do_resolve(rt, alloc, gates, idle, &work);
+                let ending = self.do_resolve(rt, alloc, gates, last, idle, &work);
                 drop(work);
                 (ending, List::new(alloc))
             }
