@@ -9,14 +9,20 @@
 
 mod ending;
 
-ghost use Rattle.std.specs.Prelude.{◌≡◌, ◌⊎◌, ℕ, List as Seq, IfOk, length};
+ghost use Rattle.std.specs.Prelude.{◌≡◌, ◌≢◌, ◌⊎◌, ℕ, List as Seq, Option, Some, None, codes, length};
+ghost use Rattle.std.specs.Prelude.{All, IfErr, IfOk, IfSome, IsOk, OnErr, OnOk, slice_get};
+ghost use Rattle.cm_keep.specs.Asked.{Asks, AsksOneOf, failing, names_at, trying, unmade};
+ghost use Rattle.cm_keep.specs.Asked.{keeping as keeping_calls};
+ghost use Rattle.cm_keep.specs.Files.{IsTried, NeverBegan, SaysWhyUnkept, StandsAt, beside_name};
+ghost use Rattle.cm_keep.specs.Keeping.{kept_text};
+ghost use Rattle.cm_keep.specs.Service.{Plans};
 ghost use Rattle.cm_keep.specs.declared.service.Unkept.TheVariants as unkept;
 ghost use Rattle.cm_program.specs.Written.{IsSaid, want_line};
 
 use cm_book::Book;
 use cm_gate::{FolderGates, Runner};
 use cm_io::{Door, Reading, Sink, SocketDoor, Writing};
-use cm_keep::{Keeping, Unkept, keep_service, keeping_of, try_keeping};
+use cm_keep::{FilePlace, Keeping, Unkept, keep_service, keeping_of, try_keeping};
 use cm_names::{List, Memory, Text};
 use cm_program::run::run;
 use ending::{ProgramStatus, ended};
@@ -72,7 +78,9 @@ fn path_in<R: env::Env + Alloc<A = Global>>(rt: &R, name: &str) -> Result<Option
 fn runner_of<R: env::Env + Alloc<A = Global>>(
     rt: &R,
     words: &[Text],
-) -> Result<Option<Text>, Memory> {
+) -> Result<Option<Text>, Memory>
+    ensures { IfOk result (λ at. at ≢ None → slice_get words.now 0 ≡ Some (codes "serve")) }
+{
     let Some(word) = words.first() else {
         return Ok(None);
     };
@@ -84,7 +92,9 @@ fn runner_of<R: env::Env + Alloc<A = Global>>(
 }
 
 /// The runner, if one listens somewhere.
-fn runner(alloc: Global, at: &Option<Text>) -> Result<Option<Runner>, Memory> {
+fn runner(alloc: Global, at: &Option<Text>) -> Result<Option<Runner>, Memory>
+    ensures { IfOk result (λ runner. runner ≡ at.now) }
+{
     match at {
         Some(at) => Ok(Some(Runner::new(alloc, at.clone()?))),
         None => Ok(None),
@@ -97,7 +107,8 @@ fn folder_gates<F: Files + Copy + Drop>(
     files: F,
     at: &Option<Text>,
 ) -> Result<List<FolderGates<F>>, Memory>
-    ensures { IfOk result (λ gates. length gates ≡ 16) }
+    ensures count { IfOk result (λ gates. length gates ≡ 16) }
+    ensures alike { IfOk result (All (λ g. g ≡ record { files = files; runner = at.now; faults = 0 })) }
 {
     let mut gates = List::new(alloc);
     for lane in 0..16_u32 {
@@ -111,33 +122,60 @@ fn folder_gates<F: Files + Copy + Drop>(
 fn journal_of<R: env::Env + Alloc<A = Global>>(
     rt: &R,
     words: &[Text],
-) -> Result<Option<Keeping>, Memory> {
+) -> Result<Option<Keeping>, Memory>
+    ensures { IfOk result (λ kept. (at : Option (Seq ℕ)) × Plans words.now at kept) }
+{
     keeping_of(rt.alloc(), words, path_in(rt, JOURNAL)?)
 }
 
-/// Tries whether the journal that is to be kept can be, before the door opens.
-fn try_journal(rt: &HostRuntime, keeping: &Option<Keeping>) -> Result<(), Unkept> {
-    let Some(keeping) = keeping else {
-        return Ok(());
-    };
-    let number = process::id(rt.process());
-    let (_files, tried) = try_keeping(rt.alloc(), *rt, number, keeping);
-    tried
+/// Tries whether the journal that is to be kept can be, before the door opens. `number` is that of the
+/// process. Where none is to be kept, nothing is asked of `files`, which come back.
+fn try_journal<F: FilePlace + Drop>(
+    alloc: Global,
+    files: F,
+    number: u32,
+    keeping: &Option<Keeping>,
+) -> (F, Result<(), Unkept>)
+    ensures none { keeping.now ≡ None → IsOk result.1 × (result.0 ≡ files) }
+    ensures tried { IfSome keeping.now
+        (λ k. OnOk result.1 (IsTried F.created F.unnamed (beside_name k.at number))) }
+    ensures asked { IfSome keeping.now
+        (λ k. OnOk result.1 (Asks (F.asked files) (F.asked result.0) (trying (names_at k.at number)))) }
+    ensures unmade { IfSome keeping.now (λ k. OnErr result.1
+        (AsksOneOf (F.asked files) (F.asked result.0) (unmade (names_at k.at number)))) }
+    ensures told { IfSome keeping.now (λ k. IfErr result.1 (SaysWhyUnkept k.at)) }
+{
+    match keeping {
+        Some(keeping) => try_keeping(alloc, files, number, keeping),
+        None => (files, Ok(())),
+    }
 }
 
-/// Keeps the journal that is to be kept.
-fn keep_journal(
-    rt: &HostRuntime,
+/// Keeps the journal that is to be kept. `number` is that of the process. Where none is, nothing is asked of
+/// `files`, which come back.
+fn keep_journal<F: FilePlace + Drop>(
+    alloc: Global,
+    files: F,
+    number: u32,
     keeping: &Option<Keeping>,
     status: u8,
     book: &Book,
-) -> Result<(), Unkept> {
-    let Some(keeping) = keeping else {
-        return Ok(());
-    };
-    let number = process::id(rt.process());
-    let (_files, kept) = keep_service(rt.alloc(), *rt, number, keeping, status, book);
-    kept
+) -> (F, Result<(), Unkept>)
+    ensures none { keeping.now ≡ None → IsOk result.1 × (result.0 ≡ files) }
+    ensures unbegun { NeverBegan status book.now.entries → IsOk result.1 × (result.0 ≡ files) }
+    ensures kept { IfSome keeping.now (λ k. OnOk result.1 (NeverBegan status book.now.entries
+        ⊎ StandsAt F.Draft.contents F.created F.synced F.renamed (beside_name k.at number) k.at
+        (kept_text k.root book.now.entries))) }
+    ensures asked { IfSome keeping.now (λ k. OnOk result.1 (NeverBegan status book.now.entries
+        ⊎ Asks (F.asked files) (F.asked result.0) (keeping_calls (names_at k.at number)))) }
+    ensures failed { IfSome keeping.now (λ k. OnErr result.1
+        (AsksOneOf (F.asked files) (F.asked result.0) (failing (names_at k.at number)))) }
+    ensures told { IfSome keeping.now (λ k. IfErr result.1 (SaysWhyUnkept k.at)) }
+{
+    match keeping {
+        Some(keeping) => keep_service(alloc, files, number, keeping, status, book),
+        None => (files, Ok(())),
+    }
 }
 
 /// Says on the error stream why a journal isn't kept. The program ends so, unless its run had a status of
@@ -155,12 +193,17 @@ fn say<R: Threads + Wait + Sync, E: Sink>(rt: &R, err: &mut E, why: &Unkept) -> 
     }
 }
 
-/// The gates that these words are run with, and the journal that is to be kept, which can be.
+/// The gates that these words are run with, and the journal that is to be kept, which can be. All gates ask
+/// the same runner, which only words of a service have.
 fn outside_of(
     rt: HostRuntime,
     words: &[Text],
 ) -> Result<(List<FolderGates<HostRuntime>>, Option<Keeping>), Unkept>
-    ensures { IfOk result (λ given. length given.0 ≡ 16) }
+    ensures count { IfOk result (λ given. length given.0 ≡ 16) }
+    ensures alike { IfOk result (λ given. (at : Option (Seq ℕ))
+        × (at ≢ None → slice_get words.now 0 ≡ Some (codes "serve"))
+        × All (λ g. g ≡ record { files = rt; runner = at; faults = 0 }) given.0) }
+    ensures journal { IfOk result (λ given. (at : Option (Seq ℕ)) × Plans words.now at given.1) }
 {
     let Ok(at) = runner_of(&rt, words) else {
         return Err(Unkept::Memory);
@@ -171,8 +214,12 @@ fn outside_of(
     let Ok(keeping) = journal_of(&rt, words) else {
         return Err(Unkept::Memory);
     };
-    try_journal(&rt, &keeping)?;
-    Ok((gates, keeping))
+    let number = process::id(rt.process());
+    let (_files, tried) = try_journal(rt.alloc(), rt, number, &keeping);
+    match tried {
+        Ok(()) => Ok((gates, keeping)),
+        Err(why) => Err(why),
+    }
 }
 
 /// Runs the program once over the standard streams and a socket door, and ends with its status.
@@ -200,7 +247,8 @@ fn main(rt: HostRuntime) -> ProgramStatus {
         SocketDoor::new(rt),
         gates,
     );
-    let kept = keep_journal(&rt, &keeping, ran.status, &ran.book);
+    let number = process::id(rt.process());
+    let (_files, kept) = keep_journal(rt.alloc(), rt, number, &keeping, ran.status, &ran.book);
     let (status, mut door) = ended(asked, input, out, err, ran);
     // The socket file would outlive the program.
     door.close();
