@@ -74,20 +74,27 @@ fn path_in<R: env::Env + Alloc<A = Global>>(rt: &R, name: &str) -> Result<Option
     }
 }
 
-/// Where a runner listens, for words that ask for a service. All other words ask no runner.
-fn runner_of<R: env::Env + Alloc<A = Global>>(
+/// Where a runner listens, and where the journal of a service is to be kept, if the environment tells it.
+fn places<R: env::Env + Alloc<A = Global>>(
     rt: &R,
-    words: &[Text],
-) -> Result<Option<Text>, Memory>
-    ensures { IfOk result (λ at. at ≢ None → slice_get words.now 0 ≡ Some (codes "serve")) }
+) -> Result<(Option<Text>, Option<Text>), Memory> {
+    let runner = path_in(rt, RUNNER)?;
+    let journal = path_in(rt, JOURNAL)?;
+    Ok((runner, journal))
+}
+
+/// Where the runner listens that these words ask: for a service where it is told, and for all others nowhere.
+fn runner_of(words: &[Text], told: Option<Text>) -> Option<Text>
+    ensures service { slice_get words.now 0 ≡ Some (codes "serve") → result ≡ told }
+    ensures others { slice_get words.now 0 ≢ Some (codes "serve") → result ≡ None }
 {
     let Some(word) = words.first() else {
-        return Ok(None);
+        return None;
     };
     if word.as_str() == "serve" {
-        path_in(rt, RUNNER)
+        told
     } else {
-        Ok(None)
+        None
     }
 }
 
@@ -116,16 +123,6 @@ fn folder_gates<F: Files + Copy + Drop>(
         gates.push(FolderGates::new(files, runner(alloc, at)?))?;
     }
     Ok(gates)
-}
-
-/// The journal that is to be kept, for words that ask for a service. Of all others none is.
-fn journal_of<R: env::Env + Alloc<A = Global>>(
-    rt: &R,
-    words: &[Text],
-) -> Result<Option<Keeping>, Memory>
-    ensures { IfOk result (λ kept. (at : Option (Seq ℕ)) × Plans words.now at kept) }
-{
-    keeping_of(rt.alloc(), words, path_in(rt, JOURNAL)?)
 }
 
 /// Tries whether the journal that is to be kept can be, before the door opens. `number` is that of the
@@ -193,25 +190,26 @@ fn say<R: Threads + Wait + Sync, E: Sink>(rt: &R, err: &mut E, why: &Unkept) -> 
     }
 }
 
-/// The gates that these words are run with, and the journal that is to be kept, which can be. All gates ask
-/// the same runner, which only words of a service have.
+/// The gates that these words are run with, and the journal that is to be kept, which can be. For a service
+/// all gates ask the runner that is told, and a journal is kept where a place is; for all others neither is.
 fn outside_of(
     rt: HostRuntime,
     words: &[Text],
+    runner: Option<Text>,
+    journal: Option<Text>,
 ) -> Result<(List<FolderGates<HostRuntime>>, Option<Keeping>), Unkept>
     ensures count { IfOk result (λ given. length given.0 ≡ 16) }
-    ensures alike { IfOk result (λ given. (at : Option (Seq ℕ))
-        × (at ≢ None → slice_get words.now 0 ≡ Some (codes "serve"))
-        × All (λ g. g ≡ record { files = rt; runner = at; faults = 0 }) given.0) }
-    ensures journal { IfOk result (λ given. (at : Option (Seq ℕ)) × Plans words.now at given.1) }
+    ensures service { slice_get words.now 0 ≡ Some (codes "serve") → IfOk result (λ given.
+        All (λ g. g ≡ record { files = rt; runner = runner; faults = 0 }) given.0) }
+    ensures others { slice_get words.now 0 ≢ Some (codes "serve") → IfOk result (λ given.
+        All (λ g. g ≡ record { files = rt; runner = None; faults = 0 }) given.0) }
+    ensures journal { IfOk result (λ given. Plans words.now journal given.1) }
 {
-    let Ok(at) = runner_of(&rt, words) else {
-        return Err(Unkept::Memory);
-    };
+    let at = runner_of(words, runner);
     let Ok(gates) = folder_gates(rt.alloc(), rt, &at) else {
         return Err(Unkept::Memory);
     };
-    let Ok(keeping) = journal_of(&rt, words) else {
+    let Ok(keeping) = keeping_of(rt.alloc(), words, journal) else {
         return Err(Unkept::Memory);
     };
     let number = process::id(rt.process());
@@ -232,8 +230,11 @@ fn main(rt: HostRuntime) -> ProgramStatus {
     let Ok(words) = words(&rt) else {
         return ProgramStatus::out_of_memory(&rt, &mut err);
     };
+    let Ok((runner, journal)) = places(&rt) else {
+        return ProgramStatus::out_of_memory(&rt, &mut err);
+    };
     let asked = words.as_slice();
-    let (gates, keeping) = match outside_of(rt, asked) {
+    let (gates, keeping) = match outside_of(rt, asked, runner, journal) {
         Ok(given) => given,
         Err(why) => return say(&rt, &mut err, &why),
     };
