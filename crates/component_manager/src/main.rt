@@ -75,9 +75,7 @@ fn path_in<R: env::Env + Alloc<A = Global>>(rt: &R, name: &str) -> Result<Option
 }
 
 /// Where a runner listens, and where the journal of a service is to be kept, if the environment tells it.
-fn places<R: env::Env + Alloc<A = Global>>(
-    rt: &R,
-) -> Result<(Option<Text>, Option<Text>), Memory> {
+fn places<R: env::Env + Alloc<A = Global>>(rt: &R) -> Result<(Option<Text>, Option<Text>), Memory> {
     let runner = path_in(rt, RUNNER)?;
     let journal = path_in(rt, JOURNAL)?;
     Ok((runner, journal))
@@ -91,11 +89,7 @@ fn runner_of(words: &[Text], told: Option<Text>) -> Option<Text>
     let Some(word) = words.first() else {
         return None;
     };
-    if word.as_str() == "serve" {
-        told
-    } else {
-        None
-    }
+    if word.as_str() == "serve" { told } else { None }
 }
 
 /// The runner, if one listens somewhere.
