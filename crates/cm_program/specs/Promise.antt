@@ -151,6 +151,8 @@ module _ {S K E D L G : Type 0}
         ⊎ Rose (counts_of was.door).closings (counts_of now.ran.door).closings
     -- at 0 peers could come to the socket that the words name, where the door tells where they may
     pub place : now.ran.status ≡ 0 → IsOpenAt o.socket (place_of now.ran.door)
+    -- and at any status they could come nowhere else
+    pub nowhere_else : (place_of now.ran.door ≡ place_of was.door) ⊎ IsOpenAt o.socket (place_of now.ran.door)
     pub untouched : (now.input ≡ was.input) × (now.out ≡ was.out)
 
   -- what the program promises of every run, whatever its words, its input and the outside are; the top

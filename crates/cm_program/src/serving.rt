@@ -1,6 +1,6 @@
 //! The command `serve`: sessions over the links of a door.
 
-ghost use Rattle.std.specs.Prelude.{◌≡◌, length};
+ghost use Rattle.std.specs.Prelude.{◌≡◌, ◌⊎◌, length};
 ghost use Rattle.cm_call.specs.CallsInside.{IsServing};
 ghost use Rattle.cm_io.specs.Doors.{IsOpenAt, IsShut};
 ghost use Rattle.cm_program.specs.Headline.{IsHistory};
@@ -38,6 +38,8 @@ where
         (served_frame options) (served_manifests options) options.sessions options.workers gates
         (D.counts door) result }
     ensures place { result.status ≡ 0 → IsOpenAt options.socket (D.place result.door) }
+    ensures nowhere_else { (D.place result.door ≡ D.place door)
+        ⊎ IsOpenAt options.socket (D.place result.door) }
     ensures history { IsHistory result.book.entries }
     ensures err { SaysOnErr E.written E.faults err.old err.new result.status }
 {

@@ -153,6 +153,9 @@ returns-in-Ok-Serve g c =
         place =
             subst (λ (x : ServeOptions). c.run_sessions.result.status ≡ 0 → IsOpenAt x.socket (g.D.Door.place c.run_sessions.result.door))
             (same_serving c.in-Ok-Serve.ensures.gives c.in-Ok-Serve.field-0-is asks) c.run_sessions.ensures.place;
+        nowhere_else =
+            subst (λ (x : ServeOptions). (g.D.Door.place c.run_sessions.result.door ≡ g.D.Door.place c.args.door) ⊎ IsOpenAt x.socket (g.D.Door.place c.run_sessions.result.door))
+            (same_serving c.in-Ok-Serve.ensures.gives c.in-Ok-Serve.field-0-is asks) c.run_sessions.ensures.nowhere_else;
         untouched = (refl, refl);
       };
     }
@@ -223,6 +226,7 @@ returns-in-Err-Memory g c =
         few = few_given c.stopped-in-Err-Memory.result.links o.sessions c.stopped-in-Err-Memory.ensures.links;
         done = λ is. not_six c.stopped-in-Err-Memory.ensures.status c.out_of_memory.ensures.status is refl;
         place = λ is. not_six c.stopped-in-Err-Memory.ensures.status c.out_of_memory.ensures.status is refl;
+        nowhere_else = inl (ap g.D.Door.place c.stopped-in-Err-Memory.ensures.door);
         untouched = (refl, refl);
       };
     }

@@ -1,4 +1,4 @@
-use Rattle.std.proofs.Common.{◌∙◌}
+use Rattle.std.proofs.Common.{inl, inr, ap, ◌∙◌}
 use Rattle.cm_session.specs.Links.{view_of}
 use Rattle.cm_session.specs.Serving.{back_view}
 use Rattle.cm_program.specs.Sessions.{served_frame, served_manifests}
@@ -36,6 +36,17 @@ returns-in-Ready-clause-place g c =
 
 pub returns-clause-place : goal.returns-clause-place
 returns-clause-place g c = λ is. failed_run 4 c.stopped-in-Failed.ensures.status c.door_fault.ensures.status is
+
+pub returns-in_default-clause-nowhere_else : goal.returns-in_default-clause-nowhere_else
+returns-in_default-clause-nowhere_else g c = inl (ap g.D.Door.place c.stopped.ensures.door)
+
+pub returns-in-Ready-clause-nowhere_else : goal.returns-in-Ready-clause-nowhere_else
+returns-in-Ready-clause-nowhere_else g c =
+    inr (at_same _ _ _ _ c.as_str.ensures c.attend.ensures.place c.in-Ready.ensures.place)
+
+pub returns-clause-nowhere_else : goal.returns-clause-nowhere_else
+returns-clause-nowhere_else g c =
+    inl (ap g.D.Door.place c.stopped-in-Failed.ensures.door ∙ c.in-Failed.ensures.place)
 
 pub returns-in-Ready-clause-history : goal.returns-in-Ready-clause-history
 returns-in-Ready-clause-history g c =
