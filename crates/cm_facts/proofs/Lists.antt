@@ -10,7 +10,7 @@ use Rattle.std.proofs.lemmas.Option.{get_or_from_slice_get, slice_get_within}
 pub length_cons_zero : (b : ℕ) (bs : List ℕ) → (length (b ∷ bs) == 0) ≡ false
 length_cons_zero b bs = grind (arith, rules)
 
--- The length with one item more.
+-- A list with one item more is longer by one.
 pub length_one_more : {A : Type 0} (xs : List A) (y : A) (n : ℕ) → length xs ≡ n → length (xs ++ y ∷ []) ≡ n + 1
 length_one_more xs y n long = length_push xs y ∙ ap (λ k. k + 1) long
 
@@ -92,7 +92,7 @@ All_filter_map P Q f [] each all = All-nil Q
 All_filter_map P Q f (x ∷ xs) each all = All_cons_option Q (f x) (filter_map f xs) (each x (All-head P x xs all))
     (All_filter_map P Q f xs each (All-tail P x xs all))
 
--- A list of none has nothing.
+-- An empty list contains nothing.
 pub Contains_none : {A : Type 0} (x : A) → Contains [] x → ⊥
 Contains_none x there = let low : there.0 < 0 = there.1 in absurd (omega arith)
 

@@ -28,6 +28,6 @@ lt_of_lt_suc n m k low high = omega arith
 pub lt_before : (n m k p : ℕ) → n < m → m < k → k ≡ suc p → n < p
 lt_before n m k p low high is = omega arith
 
--- A sum with one in between.
+-- A sum with one in between is that sum, bracketed from the left.
 pub add_between : (a b c : ℕ) → a + (b + 1 + c) ≡ a + b + 1 + c
 add_between a b c = omega arith

@@ -10,7 +10,7 @@ pub is_some_false : {A : Type 0} (o : Option A) → is_some o ≡ false → o �
 is_some_false None e = refl
 is_some_false (Some x) e = absurd (true≢false e)
 
--- The same by the other test.
+-- An option that the test finds to be none is `None`.
 pub is_none_true : {A : Type 0} (o : Option A) → IsTrue (is_none o) → o ≡ None
 is_none_true None e = refl
 is_none_true (Some x) e = absurd (true≢false (sym e))
@@ -39,12 +39,12 @@ pub option_eq_some : (o : Option ℕ) (n : ℕ) → IsTrue (option_eq nat_eq o (
 option_eq_some None n e = absurd (true≢false (sym e))
 option_eq_some (Some m) n e = ap Some ((unsigned_Decides m n).0 e)
 
--- An option before a list.
+-- An option put before a list is the option as a list, followed by the list.
 pub cons_option_append : {A : Type 0} (o : Option A) (xs : List A) → cons_option o xs ≡ option_to_list o ++ xs
 cons_option_append None xs = refl
 cons_option_append (Some x) xs = refl
 
--- An option before nothing.
+-- An option put before the empty list is the option as a list.
 pub cons_option_nil : {A : Type 0} (o : Option A) → cons_option o [] ≡ option_to_list o
 cons_option_nil None = refl
 cons_option_nil (Some x) = refl
@@ -71,10 +71,10 @@ pub cond_some_more : {A : Type 0} (t : Bool) (x y : A) (o more : Option A)
 cond_some_more true x y o more behind e = e
 cond_some_more false x y o more behind e = behind e
 
--- A result has one value.
+-- A result that is `Ok` has one value.
 pub Ok_same : {A E : Type 0} {r : Result A E} {x y : A} → r ≡ Ok x → r ≡ Ok y → x ≡ y
 Ok_same one other = cc (one, other)
 
--- A result isn't both.
+-- A result isn't both `Ok` and `Err`.
 pub Ok_not_Err : {A E : Type 0} {r : Result A E} {x : A} {y : E} → r ≡ Ok x → r ≡ Err y → ⊥
 Ok_not_Err one other = absurd (cc)

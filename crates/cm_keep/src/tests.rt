@@ -35,7 +35,7 @@ fn journal(alloc: Global, count: usize) -> Result<String, Fail> {
     Ok(text)
 }
 
-/// What comes of its keeping by that keeper.
+/// Keeps the journal of a history of so many entries by that keeper, and answers what came of it.
 fn keep(
     alloc: Global,
     keeper: &mut MemoryKeeper,

@@ -90,7 +90,7 @@ fn perform_own<R: Threads + Wait + Sync, G: Gates>(
     (pass, lost)
 }
 
-/// Puts a value into a place; one that was there is dropped.
+/// Puts a value into a place, as a lane's pass back behind its phase; one that was there is dropped.
 pub(crate) fn put<T: Drop>(place: &mut Option<T>, value: T)
     ensures { place.new ≡ Some value }
 {

@@ -40,7 +40,8 @@ fn launch_of(began: Result<Began, Refusal>) -> Result<Launch, u64>
     }
 }
 
-/// These rows before the others. `Err` where memory runs out, which no rows take.
+/// The queue of rows that are left to start, with these eager children put before the others, in their
+/// order. `Err` where memory runs out; no memory is taken where there are none.
 fn in_prefix(rows: List<u64>, others: VecDeque<u64>) -> Result<VecDeque<u64>, AllocError>
     ensures all { IfOk result (λ all. all.items ≡ rows ++ others.items) }
     ensures wanting { OnErr result (rows ≢ []) }

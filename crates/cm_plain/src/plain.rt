@@ -41,7 +41,8 @@ fn is_space(byte: u8) -> bool
     matches!(byte, b' ' | b'\t' | b'\n' | b'\r')
 }
 
-/// Whether the text begins with a space, which is passed over.
+/// Whether the text begins with a byte that only parts tokens (a space, a tab or a line's end), which both
+/// readers pass over.
 pub(crate) fn begins_space(text: &[u8]) -> bool
     ensures { result ≡ bytes.begins_with bytes.is_space text.now }
 {

@@ -84,7 +84,8 @@ fn next_quote(text: &[u8]) -> Option<u8>
     }
 }
 
-/// The string that is next, if it has no escape, and what stands after it and the gap.
+/// The string that is next, if it has no escape, and what stands after it and after the spaces and comments
+/// behind it.
 fn read_string(text: &str) -> Option<(&str, &str)>
     ensures string { IfSome result (λ read. HasString text.now read.0.now read.1.now) }
     ensures shorter { IfSome result (λ read. length read.1.now < length text.now) }

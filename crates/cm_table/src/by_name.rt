@@ -24,7 +24,8 @@ pub struct NamedChild {
 
 /// Children by their names. A word of 64 bits is made of a name, and looked for among those of the others; so
 /// one name is compared and not all that stand on the way. Whose word another name had first is looked for by
-/// the order of names: no choice of names makes a look-up slower than such an order does.
+/// the order of names: no choice of names makes a look-up slower than such an order does, by more than one
+/// search among numbers.
 #[derive(Drop)]
 pub struct ChildrenByName {
     /// The child of each word that came first.

@@ -80,7 +80,8 @@ fn voided(alloc: Global, hop: Hop) -> Result<Walked, Memory>
     Ok(Walked::Void(hop))
 }
 
-/// What the start names.
+/// Where a walk begins: at the use, the expose or the offer that its start names, or that there is none.
+/// `walk` asks it once, before its first hop.
 fn begin<'a, V: View>(alloc: Global, view: &'a V, start: &Start) -> Result<Begun<'a>, Memory>
     ensures named { IfOk result (λ begun. as_named begun
         ≡ spec.named_by (V.rows view.now) start.now) }

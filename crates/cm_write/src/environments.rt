@@ -22,7 +22,8 @@ fn registration_value(alloc: Global, key: &str, row: &Registration) -> Result<Va
     Ok(Value::from(members))
 }
 
-/// The list of what registrations are written as.
+/// The list of what registrations of one kind are written as. `key` is the member that has the name that is
+/// registered: `runner`, or `protocol` of a debug registration.
 fn registrations_value(alloc: Global, key: &str, rows: &[Registration]) -> Result<Value, Memory>
     ensures { IfOk result
         (λ v. view v ≡ writing.list_of (writing.registration_data key.now) rows.now) }

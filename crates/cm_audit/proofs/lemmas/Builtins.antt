@@ -18,12 +18,12 @@ use Rattle.cm_reply.specs.Journal.{builtin_text, builtin_words, provided_rights}
 use Rattle.cm_reply.specs.Legible.{IsLegibleAs, IsLegibleBuiltin}
 use Rattle.cm_reply.specs.Lists.{TextBytes, when_some}
 
--- what words say is legible
+-- A builtin that words of a head say is one that a journal can tell of.
 pub legible_by : (ws : List TextBytes) (b : Builtin) → BuiltinWords ws b → IsLegibleBuiltin b
 legible_by ws b (BuiltinWords.protocol h) = record { name = h; stands = (refl, refl) }
 legible_by ws b (BuiltinWords.directory {w = w} {r = r} h p rights) = record { name = h; stands = (p, (r, refl, rights_are w r rights)) }
 
--- a builtin by its parts
+-- A builtin is the one that is made of its kind, its name, its path and its rights.
 made : (b : Builtin) (k : Kind) (path : TextBytes) (rights : Option RightSet) → b.kind ≡ k → b.path ≡ path → b.rights ≡ rights → b ≡ record { kind = k; name = b.name; path = path; rights = rights }
 made b k path rights kinds paths same =
     ap (λ x. record { kind = x; name = b.name; path = b.path; rights = b.rights }) kinds
@@ -51,7 +51,7 @@ reads_as b kind.Directory is name legible =
 pub is_said : (b : Builtin) → IsLegibleBuiltin b → BuiltinText (builtin_words b.kind b) b
 is_said b legible = reads_as b b.kind refl legible.name legible.stands
 
--- and no other has its line
+-- Two builtins that a journal can tell of with one line are the same.
 pub one_builtin : (b c : Builtin) → IsLegibleBuiltin b → IsLegibleBuiltin c → builtin_text b ≡ builtin_text c → b ≡ c
 one_builtin b c h k same =
     let words : builtin_words b.kind b ≡ builtin_words c.kind c = append_cancel_left (codes "builtin ") _ _ same in
@@ -62,7 +62,7 @@ pub unsaid : (t w : TextBytes) → t ≡ codes "builtin " ++ w → ((b : Builtin
 unsaid t w is none b legible same =
     none b (subst (λ x. BuiltinText x b) (append_cancel_left (codes "builtin ") _ _ (sym same ∙ is)) (is_said b legible))
 
--- nor one whose words say another, which is written otherwise
+-- A line whose words say a builtin that is written otherwise is that of no builtin.
 pub unwritten : (t w : TextBytes) (b : Builtin) → t ≡ codes "builtin " ++ w → BuiltinText w b → (t ≡ builtin_text b → ⊥) → (c : Builtin) → IsLegibleBuiltin c → t ≡ builtin_text c → ⊥
 unwritten t w b is said other c legible same =
     let there : BuiltinText w c = subst (λ x. BuiltinText x c) (append_cancel_left (codes "builtin ") _ _ (sym same ∙ is)) (is_said c legible) in

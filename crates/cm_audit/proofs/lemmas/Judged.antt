@@ -49,7 +49,7 @@ pub enabled_both : (w : World) (caller : ℕ) (e : Event) → IsEnabledBut w cal
 enabled_both w caller (event.End a finish) h valid = record { act = h.act; there = h.there; pending = h.pending; own = h.own; fitting = h.fitting; valid = valid }
 enabled_both w caller e h valid = h
 
--- a declaration that isn't valid
+-- An event whose declaration was found to be not valid isn't enabled.
 pub not_valid : (w : World) (caller : ℕ) (e : Event) (b : Bool) → b ≡ false → (IsTrue b ↔ BringsValid e) → IsTrue false ↔ IsEnabled w caller e
 not_valid w caller e b non told =
     ((λ is_so. absurd (true≢false (sym is_so))), λ h. absurd (true≢false (sym (told.1 (enabled_valid w caller e h)) ∙ non)))
@@ -158,7 +158,7 @@ pub tells_other : (s : Story) → Legal (start s.frame) s.entries → (t row : �
 tells_other s legal t row given tells may i r it is same =
     may (subst (MayBePicked (world_of s).rows t) (tells t i r is (pick_fits s legal t i r it is) same) (told_picks (world_of s) t i r it is))
 
--- the realm's own pick
+-- A pick that tells of no instance is judged right by the realm's own pick and the text of its reply.
 pub judged_own : (old new : Story) (caller t : ℕ) (given : TextBytes) (r : Reply) (o : Option TextBytes)
     → TellsNoPick (world_of old) t given → AddsEntry old new caller (event.Pick t) r
     → MatchOption o (given ≡ replied_text r) (λ x. (x ≡ other_pick_text) × (given ≢ replied_text r))

@@ -86,7 +86,7 @@ to_finds (Expects.no_step non) = inr (refl, inl (non, refl))
 to_finds (Expects.other_pick can other) = inr (refl, inr (can, inl (tt, refl)))
 to_finds (Expects.reply r none can allowed other) = inr (refl, inr (can, inr (r, none, allowed, refl)))
 
--- it is one text
+-- Of one entry no two different texts are expected.
 one_found : (w : World) (next n caller : ℕ) (e : Event) (given x y : TextBytes) → Finds w next n caller e given x → Finds w next n caller e given y → x ≡ y
 one_found w next n caller e given x y (inl a) (inl b) = a.1 ∙ sym b.1
 one_found w next n caller e given x y (inl a) (inr b) = absurd (a.0 b.0)
@@ -118,7 +118,7 @@ abbrev IsToldBy : Stage → ℕ → Type 0
 IsToldBy (told f es) n = n ≡ length es
 IsToldBy _ n = ⊥
 
--- an entry there that isn't legal
+-- What is expected at a stage in place of a line that tells of an entry which isn't legal there.
 abbrev IsWrong : Stage → TextBytes → ℕ → TextBytes → TextBytes → Type 0
 IsWrong (told f es) t n given x =
     (caller : ℕ) × (e : Event) × IsEntryLine t n caller e given × Expects (replay (start f) es) (length es + 1) n caller e given x

@@ -33,7 +33,7 @@ pub reads_more : (ts : List TextBytes) (t : TextBytes) (s m u : Stage) → Reads
 reads_more [] t s m u same read = (u, subst (λ x. Reads x t u) (sym same) read, refl)
 reads_more (x ∷ xs) t s m u all read = (all.0, all.1, reads_more xs t all.0 m u all.2 read)
 
--- where a line ends
+-- What was taken up to the end of a line and what is left behind it are as many bytes as all.
 taken_more : (l s t r b : ℕ) → min l s + r ≡ l → min r (t + 1) + b ≡ r → min l (s + (t + 1)) + b ≡ l
 taken_more l s t r b e f = omega arith
 
@@ -90,7 +90,7 @@ at_start bytes = record {
   reads = refl;
 }
 
--- the next line leads on
+-- From a place in a journal one line read leads to the place behind that line.
 pub at_next : {bytes rest t behind : TextBytes} {n : ℕ} {s u : Stage} → IsAt bytes n rest s → IsCut (length bytes) rest t behind → Reads s t u → IsAt bytes (n + 1) behind u
 at_next {bytes} {rest} {t} {behind} {n} {s} {u} at cut read =
     let all : bytes_of bytes (at.prefix ++ t ∷ []) + length behind ≡ length bytes = taken_next at t behind cut.lines cut.end in
@@ -107,7 +107,7 @@ at_next {bytes} {rest} {t} {behind} {n} {s} {u} at cut read =
 
 -- ---- the first line
 
--- is no longer than the bytes
+-- The first line of some bytes is no longer than they are.
 first_short : (bs t : TextBytes) (ts : List TextBytes) → lines_of bs ≡ t ∷ ts → length t ≤ length bs
 first_short [] t ts e = absurd (cc e)
 first_short (b ∷ bs) t ts e = by (b == 10) (lines_of bs) (first_short bs) e

@@ -17,7 +17,7 @@ in_prefix_size : (b : ℕ) (ts : List TextBytes) → 1 + size_of ts ≤ size_of 
 in_prefix_size b [] = grind (arith, rules)
 in_prefix_size b (t ∷ ts) = grind (arith, rules)
 
--- all lines have all bytes
+-- The lines of a text have at least as many bytes together as the text, each with one for its end.
 pub lines_size : (bytes : TextBytes) → length bytes ≤ size_of (lines_of bytes)
 lines_size [] = omega arith
 lines_size (b ∷ bs) = by (b == 10) (lines_size bs) (in_prefix_size b (lines_of bs))

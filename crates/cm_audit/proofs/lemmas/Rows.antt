@@ -18,7 +18,7 @@ use Rattle.cm_laws.specs.Clients.{picked_by}
 use Rattle.cm_audit.specs.Reading.{TellsRow}
 use Rattle.cm_audit.proofs.lemmas.Telling.{second}
 
--- what a number is read as
+-- A number that digits are read as, or none where they are no number of 64 bits.
 abbrev pub IsReadAs : TextBytes → Option ℕ → Type 0
 IsReadAs digits o = MatchOption o (IsU64Text digits → ⊥) (λ n. IsNumberText digits n)
 

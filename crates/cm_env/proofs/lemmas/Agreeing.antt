@@ -41,7 +41,7 @@ line_up : (rows : List Row) (next i p : ℕ) (r : Row) → IsOrderly rows next �
 line_up rows next i p r orderly here above =
     line_of-step rows next i r orderly here ∙ ap (λ o. i ∷ line_from (length rows) rows o) above
 
--- and of the root the root alone
+-- The line of the root is the root alone.
 line_top : (rows : List Row) (next i : ℕ) (r : Row) → IsOrderly rows next → Lives rows i r → r.parent ≡ None → line_of rows i ≡ i ∷ []
 line_top rows next i r orderly here above =
     line_of-step rows next i r orderly here ∙ ap (λ o. i ∷ line_from (length rows) rows o) above
@@ -83,7 +83,7 @@ agree_up rows others next later i p r s orderly well here there above over agree
       decls = λ j at. agree.decls j (subst (λ l. IsTrue (list_any (λ k. k == j) (drop 1 l))) (sym prefix) (any_tail (λ k. k == j) (line_of rows p) at));
     }
 
--- a parent is above
+-- The parent of a row in an orderly tree is above it.
 parent_above : (rows : List Row) (next i p : ℕ) (r : Row) → IsOrderly rows next → Lives rows i r → r.parent ≡ Some p → IsAbove rows i p
 parent_above rows next i p r orderly here above =
     let parent : IsParent rows p i = parent_of rows next i p r orderly here above in
@@ -99,7 +99,7 @@ row_at rows next i r orderly here =
     subst (λ l. IsTrue (list_any (λ k. k == i) l)) (sym (line_of-step rows next i r orderly here))
     (or_left (i == i) (list_any (λ k. k == i) (line_from (length rows) rows r.parent)) ((unsigned_Decides i i).1 refl))
 
--- the names of the row itself
+-- Trees that agree above a row give it the same name.
 same_names : (rows others : List Row) (next i : ℕ) (r s : Row) → IsOrderly rows next → Lives rows i r → Lives others i s → AgreeAbove rows others i → r.name ≡ s.name
 same_names rows others next i r s orderly here there agree =
     sym (ap (option_and_then (λ (x : Row). x.name)) here) ∙ agree.names i (row_at rows next i r orderly here) ∙ ap (option_and_then (λ (x : Row). x.name)) there

@@ -20,7 +20,7 @@ put_by : {A : Type 0} (t : Bool) (row : Bor A) (o : Option (Bor A)) → option_c
 put_by true row o = refl
 put_by false row o = refl
 
--- with the row before them
+-- With the row before them put in, the index has the first row of each key of these and it.
 pub firsts_more : {A S : Type 0} (key : A → List ℕ) (rows : List A) (left : ℕ) (text : Bor (List ℕ)) (row : Bor A) (old new : HashMap (Bor (List ℕ)) (Bor A) S) → left < length rows → row.now ≡ get_or rows left row.now → text.now ≡ key row.now → HasFirsts key (drop (left + 1) rows) old → UpdatesBy (λ x y. bytes_eq x.now y.now) (λ k. bytes_eq text.now k.now) old new (Some row) → HasFirsts key (drop left rows) new
 firsts_more key rows left text row old new within at own before put wanted =
     ap option_copied (hash_map_updates_str text.now old new (Some row) put wanted)

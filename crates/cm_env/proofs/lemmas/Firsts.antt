@@ -29,7 +29,7 @@ here_by l ls k some = ap (λ o. elim o as (λ _. Option Fault) [ Some i ↦ Some
 pub found_here : (ls : List ParentLook) (i k : ℕ) (d : ParentLook) → i < length ls → (get_or ls i d).row ≡ Some k → first_found (drop i ls) ≡ Some (fault (get_or ls i d).number (get_or ls i d).section k)
 found_here ls i k d below some = at_drop_more first_found ls i d below ∙ here_by (get_or ls i d) (drop (i + 1) ls) k some
 
--- as it is told
+-- The first fault that is found at this place, told by its number, section and index, is the one told.
 pub here_told : (ls : List ParentLook) (i k n : ℕ) (d : ParentLook) → i < length ls → (get_or ls i d).row ≡ Some k → first_found ls ≡ first_found (drop i ls) → n ≡ index_of k → ◌≡◌ {A = Option (ℕ × Section × ℕ)} (Some ((get_or ls i d).number, (get_or ls i d).section, n)) (option_map told (first_found ls))
 here_told ls i k n d below some left index =
     ap (λ m. Some ((get_or ls i d).number, (get_or ls i d).section, m)) index

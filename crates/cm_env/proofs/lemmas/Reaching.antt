@@ -30,7 +30,7 @@ some_given f y (Some x) e = (x, refl, some_same y (f x) e)
 
 -- ---- where a child looks
 
--- as its parent does, if it is given no environment
+-- A child that is given no environment reaches what its parent does.
 passed : (rows : List Row) (next i p : ℕ) (c : ChildName) (d : Decl) (r : Reach) → IsOrderly rows next → Stands rows i p c → Some d ≡ decl_of rows p → None ≡ environment_given d c → p < i → IsReachOf rows p r → IsReachOf rows i r
 passed rows next i p c d Nothing orderly at resolved none low above =
     λ which name. found_above which rows next i p c d name orderly at resolved none ∙ above which name
@@ -43,7 +43,7 @@ extended : (t : Bool) (which : Which) (rows : List Row) (p : ℕ) (name : List �
 extended true which rows p name = refl
 extended false which rows p name = refl
 
--- in the environment that it is given
+-- A child that is given an environment reaches what this one registers, and what it extends.
 within : (rows : List Row) (next i p : ℕ) (c : ChildName) (d : Decl) (given : List ℕ) (e : Environment) → IsOrderly rows next → Stands rows i p c → Some d ≡ decl_of rows p → Some given ≡ environment_given d c → Some e ≡ environment_of d given → (which : Which) (name : List ℕ) → registered which rows i name ≡ found_by which rows p e name
 within rows next i p c d given e orderly at resolved some there which name =
     found_declared which rows next i p c d given e name orderly at resolved some there

@@ -80,7 +80,7 @@ pub found_above : (which : Which) (rows : List Row) (next i p : ℕ) (c : ChildN
 found_above which rows next i p c d name orderly at resolved none =
     ap (find (is_known name)) (scope_step which rows next i p c d orderly at resolved ∙ ap (scope_given which p (scope_of which rows p) d) (sym none))
 
--- with one that isn't declared, nothing
+-- With an environment that isn't declared nothing is registered for the child.
 pub found_undeclared : (which : Which) (rows : List Row) (next i p : ℕ) (c : ChildName) (d : Decl) (given name : List ℕ) → IsOrderly rows next → Stands rows i p c → Some d ≡ decl_of rows p → Some given ≡ environment_given d c → None ≡ environment_of d given → registered which rows i name ≡ None
 found_undeclared which rows next i p c d given name orderly at resolved some none =
     ap (find (is_known name))
@@ -96,7 +96,8 @@ found_beside p name (r ∷ rs) = by (bytes_eq r.target name) (found_beside p nam
   by true later = refl
   by false later = later
 
--- with one that is, its first registration of the name, else what stands behind it
+-- In a declared environment a child's registration is the first of the name there, or else what stands behind
+-- it.
 pub found_declared : (which : Which) (rows : List Row) (next i p : ℕ) (c : ChildName) (d : Decl) (given : List ℕ) (e : Environment) (name : List ℕ) → IsOrderly rows next → Stands rows i p c → Some d ≡ decl_of rows p → Some given ≡ environment_given d c → Some e ≡ environment_of d given → registered which rows i name ≡ option_or (option_map (λ r. (p, r)) (found_in which e name)) (find (is_known name) (cond e.extends (scope_of which rows p) []))
 found_declared which rows next i p c d given e name orderly at resolved some there =
     ap (find (is_known name))
@@ -140,7 +141,7 @@ lone_by which rows i (suc n) (Some r) here above =
 pub found_lone : (which : Which) (rows : List Row) (i : ℕ) (name : List ℕ) → None ≡ option_and_then (λ (r : Row). r.parent) (row_of rows i) → registered which rows i name ≡ None
 found_lone which rows i name above = ap (find (is_known name)) (lone_by which rows i (length rows) (row_of rows i) refl above)
 
--- a parent is resolved
+-- A parent whose declaration is there isn't told to have none.
 pub unresolved_by : (rows : List Row) (p : ℕ) (r : Row) (o : Option Decl) → row_of rows p ≡ Some r → r.decl ≡ o → is_some o ≡ true → None ≡ decl_of rows p → ⊥
 unresolved_by rows p r None here own some none = true≢false (sym some)
 unresolved_by rows p r (Some d) here own some none = none_some d (none ∙ ap (option_and_then (λ (x : Row). x.decl)) here ∙ own)

@@ -24,7 +24,7 @@ lines_by_cases : (rows : List Row) (i : ℕ) (o : Option Decl) → decl_of rows 
 lines_by_cases rows i None e = refl
 lines_by_cases rows i (Some d) e = append-nil (lines_of rows i) ∙ ap (when_some (lines_by rows i)) e
 
--- of a row that isn't doomed its lines are told, which an unresolved one has none of
+-- Of a row that isn't doomed its own lines are told; an unresolved one has none.
 pub told_here : (rows : List Row) (i : ℕ) → has_doomed rows i ≡ false → own_lines rows i ≡ lines_of rows i
 told_here rows i alive =
     ap (λ t. flat_map (lines_of rows) (cond t [] (cond (is_resolved rows i) (i ∷ []) []))) alive
@@ -103,7 +103,7 @@ incs_popped ahead rest s was = ap incs was ∙ map-append (λ (x : Looker). x.in
 pub all_popped : (rows : List Row) (ahead rest : List Looker) (s : Looker) → ahead ≡ rest ++ s ∷ [] → All (LooksThere rows) ahead → All (LooksThere rows) rest × LooksThere rows s
 all_popped rows ahead rest s was all = All-pop (LooksThere rows) ahead rest (Some s) was all
 
--- with one child more
+-- With one child's looker more, the incarnations told are those of so many children.
 pub children_more : (old now more : List Looker) (below : List ℕ) (k : ℕ) (s : Looker) → k < length below → s.inc ≡ get_or below k 0 → more ≡ now ++ s ∷ [] → incs now ≡ incs old ++ take k below → incs more ≡ incs old ++ take (k + 1) below
 children_more old now more below k s within at pushed so_far =
     ap incs pushed

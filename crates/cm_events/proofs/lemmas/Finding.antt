@@ -86,6 +86,6 @@ told_on es from i e scope works made more below at late has told so_far =
     ∙ ap (λ l. made ++ filter (is_within scope) l) (told_same (work_at works) (work_of (take i es)) (i + 1) e.event e.reply (λ a. is_wanted (drop (i + 1) es) a) (λ a. subst (λ b. HasFound (work_at works a) (work_of (take i es) a) b) (wanted_here es i e a below at) (has a)))
     ∙ stream_on es from i e scope made below at late so_far
 
--- where the works that are wanted were looked for
+-- What is found of the works that are wanted is what has to be known of them.
 pub wanted_found : {S : Type 0} (es : List Entry) (start : ℕ) (wanted : ℕ → Bool) (works : HashMap ℕ (Bor Work) S) → ((a : ℕ) → wanted a ≡ is_wanted (drop start es) a) → ((a : ℕ) → HasFound (work_at works a) (work_of (take start es) a) (wanted a)) → HasWanted es start works
 wanted_found es start wanted works same found a = subst (λ b. HasFound (work_at works a) (work_of (take start es) a) b) (same a) (found a)

@@ -51,7 +51,7 @@ stands_first : (wanted : Bool) (found whole : Option Work) → found ≡ None �
 stands_first true found whole none = (none, refl)
 stands_first false found whole none = inr (none, refl)
 
--- one entry further to the prefix
+-- With one entry more before those that were looked at, what is sought and what is found still stand.
 stands_on : (begun : Option Work) (sought : Bool) (found whole here : Option Work) (wanted still : Bool) (now : Option Work) → ((w : Work) → begun ≡ Some w → here ≡ None) → Stands sought found (option_or here begun) whole wanted → TakesWork begun sought found still now → Stands still now here whole wanted
 stands_on None sought found whole here wanted still now once stands takes =
     subst (λ s. Stands s now here whole wanted) (sym takes.0) (subst (λ f. Stands sought f here whole wanted) (sym takes.1) (subst (λ h. Stands sought found h whole wanted) (option_or_none here) stands))

@@ -48,14 +48,14 @@ told_prefix h more k within =
     ap (λ o. elim o as (λ _. List Happening) [ None ↦ [] | Some e ↦ told_by (work_of (take k (h ++ more))) (k + 1) e.event e.reply ]) (get_prefix h more k within)
     ∙ ap (λ b. elim (slice_get h k) as (λ _. List Happening) [ None ↦ [] | Some e ↦ told_by (work_of b) (k + 1) e.event e.reply ]) (take-append-le k h more (omega arith))
 
--- the same of a row of entries
+-- What a row of entries tells stays where entries come behind.
 told_row : (h more : List Entry) (a k : ℕ) → a + k ≤ length h → flat_map (told_behind (h ++ more)) (range_with_len a k) ≡ flat_map (told_behind h) (range_with_len a k)
 told_row h more a zero within = refl
 told_row h more a (suc k) within =
     ap (λ zs. zs ++ flat_map (told_behind (h ++ more)) (range_with_len (a + 1) k)) (told_prefix h more a (omega arith))
     ∙ ap (λ zs. told_behind h a ++ zs) (told_row h more (a + 1) k (omega arith))
 
--- from a place within, or from none
+-- What is told from a place on stays where entries come behind, also where the place isn't reached.
 row_within : (h more : List Entry) (from n : ℕ) → n ≤ length h → flat_map (told_behind (h ++ more)) (range_with_len from (n - from)) ≡ flat_map (told_behind h) (range_with_len from (n - from))
 row_within h more from n within = by (n - from) refl
   where

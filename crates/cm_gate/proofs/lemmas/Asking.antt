@@ -6,11 +6,11 @@ use Rattle.cm_gate.specs.declared.asked.Halted.{Halted}
 use Rattle.cm_gate.specs.declared.asked.Job.{Job}
 use Rattle.cm_gate.specs.declared.asked.Launched.{Launched}
 
--- nothing was read yet
+-- No bytes are given where nothing was read yet.
 pub gives_none : {C : Type 0} (gave : C → List ℕ → C → Type 0) (here : C) (bytes : List ℕ) → bytes ≡ [] → Gives gave here bytes here
 gives_none gave here bytes empty = subst (λ (b : List ℕ). Gives gave here b here) (sym empty) nothing
 
--- a piece more was read
+-- With a piece more, which was read at last, all bytes are given.
 pub gives_more : {C : Type 0} (gave : C → List ℕ → C → Type 0) (before between now : C) (bytes piece all : List ℕ) → Gives gave before bytes between → gave between piece now → all ≡ bytes ++ piece → Gives gave before all now
 gives_more gave before between now bytes piece all first then is = subst (λ (b : List ℕ). Gives gave before b now) (sym is) (one_piece first then)
 

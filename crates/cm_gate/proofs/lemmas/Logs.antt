@@ -8,7 +8,7 @@ pub grew_nothing : (log : Option (List GateCall)) → Grew log log []
 grew_nothing None = tt
 grew_nothing (Some told) = sym (append-nil told)
 
--- some questions, and then some more
+-- A log that grew by some questions and then by more grew by all of them.
 pub grew_trans : (a b c : Option (List GateCall)) (xs ys : List GateCall) → Grew a b xs → Grew b c ys → Grew a c (xs ++ ys)
 grew_trans a b None xs ys before behind = tt
 grew_trans a None (Some z) xs ys before behind = absurd behind
@@ -24,10 +24,10 @@ rose_none a b end h = grind arith
 rose_sum : (s t a b c end : ℕ) → min (a + s) end ≤ b → min (b + t) end ≤ c → min (a + (s + t)) end ≤ c
 rose_sum s t a b c end h k = grind arith
 
--- a count that didn't fall
+-- A count that didn't fall rose by nothing or more.
 pub rose_nothing : (a b : ℕ) → a ≤ b → RoseBy 0 a b
 rose_nothing a b h = rose_none a b (2 ^ 64 - 1) h
 
--- some failures, and then some more
+-- A count that rose by some failures and then by more rose by all of them.
 pub rose_trans : (s t a b c : ℕ) → RoseBy s a b → RoseBy t b c → RoseBy (s + t) a c
 rose_trans s t a b c h k = rose_sum s t a b c (2 ^ 64 - 1) h k

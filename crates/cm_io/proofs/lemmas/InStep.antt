@@ -65,7 +65,7 @@ written-wrote (p ∷ pieces) = ap (λ (l : List ℕ). p ++ l) (written-wrote pie
 
 -- ---- a session's steps
 
--- nothing was read or written
+-- Where nothing was read or written, no reply is owed.
 pub answered-none : AnsweredInOrder [] [] []
 answered-none = record { in_step = InStep.begun; written = refl; lines = refl }
 

@@ -149,7 +149,7 @@ reads-more taken piece [] reads unbroken = (subst IsUnbroken (append-nil taken) 
 reads-more taken piece (p ∷ pieces) reads unbroken =
     (reads.0, reads-more (taken ++ p) piece pieces reads.1 (subst IsUnbroken (sym (append_assoc taken p (joined pieces))) unbroken))
 
--- nothing was read yet
+-- Where nothing was read yet, what is held is what was held.
 pub pulled-none : (o : Option (List Move)) (held : List ℕ) → MovesCame o o [] → Pulled o o held []
 pulled-none o held came = record { pieces = []; all = refl; came = came; no_further = tt }
 

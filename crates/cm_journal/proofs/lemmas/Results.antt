@@ -66,7 +66,7 @@ last_of (e ∷ es) x h = last_of es x (All-tail OfReply e (es ++ x ∷ []) h)
 
 -- ---- what ends a call
 
--- a refusal that names nothing
+-- A refusal that may be there is a legible one, where it is.
 abbrev OfSome : Option Refusal → Type 0
 OfSome o = IfSome o IsLegibleRefusal
 
@@ -252,7 +252,7 @@ decision_is (reply.Failed hop why) h = h
 decision_is (reply.Void hop) h = h
 decision_is _ h = tt
 
--- what an action comes to
+-- What an action came to is a legible result, where what it was answered is.
 acted_is : (made : Option ℕ → Outcome → Answer) → ((a : Option ℕ) (o : Outcome) → IsLegibleAnswer (made a o)) → (went : Result ActionResult Refusal) → OfActed went → IsLegibleResult (acted_answer made went)
 acted_is made each (Ok (acted.Ended k a o)) h = by (failure k a o) (failure_is k a o)
   where

@@ -55,7 +55,7 @@ few : (f : Frame) (prefix : TextBytes) (es : List Entry) → length (prefix ++ j
 few f prefix es short =
     omega (arith, longer 1 es, length-append prefix (journal_text f es), length-append (header_text f) (entries_text 1 es), short)
 
--- lines and their answers
+-- What holds of each answer whose line has a property holds of all, where all lines have it.
 of_lines : (P : AnsweredLine → Type 0) (Q : Line → Type 0) → ((a : AnsweredLine) → Q a.line → P a) → (xs : List AnsweredLine) → All Q (answered_lines xs) → All P xs
 of_lines P Q each [] h = All-nil P
 of_lines P Q each (x ∷ xs) h = All-cons P x xs (each x (All-head Q x.line (answered_lines xs) h)) (of_lines P Q each xs (All-tail Q x.line (answered_lines xs) h))

@@ -155,7 +155,7 @@ collection_line : (c : Command) → IsWritable c → Line (collection_of c)
 collection_line (command.ListChildren t coll) w = name_line coll w.1
 collection_line _ w = lit [] refl
 
--- a word and the instance
+-- A word and the target of a command are one line, where the command may be written.
 to : (w : TextBytes) (c : Command) → OneLine w → IsWritable c → Line (of_target w c)
 to w c h k = join (lit w h) (join space (of_line c k))
 
@@ -202,7 +202,7 @@ with_items P text each xs h {a} k = record {
   more = All_map P OneLine text xs (λ x p. (each x p).bytes) h;
 }
 
--- what happened
+-- The word of what happened is one line.
 kind_line : (k : HappenKind) → Line (happen_word k)
 kind_line happen.Resolved = lit (codes " resolved ") refl
 kind_line happen.Started = lit (codes " started ") refl

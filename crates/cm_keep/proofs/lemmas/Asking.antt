@@ -9,7 +9,7 @@ use Rattle.cm_keep.specs.Asked.{Asks, AsksOneOf, FileNames, failed_keeping, fail
 use Rattle.cm_keep.specs.declared.place.PlaceCall.{PlaceCall}
 use Rattle.cm_keep.specs.declared.place.PlaceCall.TheVariants as call
 
--- some calls, and then some more
+-- A log that has some calls more, and then more calls, has all of these more.
 pub asks_more : (a b c : Option (List PlaceCall)) (xs ys : List PlaceCall) → Asks a b xs → Asks b c ys → Asks a c (xs ++ ys)
 asks_more None b c xs ys before behind = tt
 asks_more (Some x) b c xs ys before behind =

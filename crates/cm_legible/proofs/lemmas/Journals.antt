@@ -228,7 +228,7 @@ all_legible f es h legal k = λ i x lt. record {
   reply = replies_are_tellable f es (frame_is f h) legal (λ j y le. event_is _ (k.events j y le)) i x lt;
 }
 
--- and their replies have names alone
+-- In a legal and legible history all replies have names alone.
 pub all_named : (f : Frame) (es : List Entry) → IsLegibleFrame f → Legal (start f) es → IsLegibleHistory es → All (λ (e : Entry). IsNamedReply e.reply) es
 all_named f es h legal k = replies_are_named f es (frame_is f h) legal (λ j y le. event_is _ (k.events j y le))
 

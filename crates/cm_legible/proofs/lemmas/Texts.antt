@@ -100,7 +100,7 @@ pub record IsTold (t : TextBytes) : Type 0 where
 pub told_raw : (t : TextBytes) → Clean t → IsTold t
 told_raw t h = record { line = clean_line t h; arrowless = clean_arrowless t h; utf8 = IsUtf8-from_ascii t (ascii t (clean_prints t h)) }
 
--- a path between spaces
+-- A path between clean texts and spaces is a text that can be told.
 told_path : (a p b : TextBytes) → Clean a → IsLongPath p → Clean b → IsTold (a ++ 32 ∷ (p ++ 32 ∷ b))
 unfolding is_print
 told_path a p b h k j = record {
@@ -110,7 +110,7 @@ told_path a p b h k j = record {
       (and_from true _ refl (list_all-append is_print p (32 ∷ b) ∙ and_from (list_all is_print p) _ (path_prints p k) (and_from true (list_all is_print b) refl (clean_prints b j))))));
 }
 
--- a clean text, by its parts
+-- A text whose bytes are all clean, as a record that search takes apart.
 pub record Clear (t : TextBytes) : Type 0 where
   pub bytes : Clean t
 
@@ -298,7 +298,7 @@ behind_path_clear r h =
 route_told : (a : TextBytes) (r : Route) → Clean a → IsLegibleRoute r → IsTold (a ++ (codes " " ++ route_text r))
 route_told a r h k = subst IsTold (sym (route_is a r)) (told_path a r.path (behind_path r) h k.path (behind_path_clear r k).bytes)
 
--- a word and a number
+-- A clean word and a number behind it are a text that can be told.
 numbered : (w : TextBytes) (n : ℕ) → Clean w → IsTold (w ++ decimal n)
 numbered w n h = told_clean (join (lit w h) (num n))
 

@@ -149,7 +149,7 @@ url_line (b ∷ bs) h =
 
 -- ---- words
 
--- what stands between the spaces
+-- The words of a text: what stands between its spaces.
 abbrev pub words : List ℕ → List (List ℕ)
 words t = slice_split (λ b. b == 32) t
 

@@ -99,7 +99,7 @@ passes_mark : (b : ℕ) (text rest : List ℕ) → class b ≡ operator → text
     → PassesTokens text (mark b ∷ []) rest
 passes_mark b text rest h e = passes_one (piece (mark b)) text rest (mark b ∷ []) (sym e) (class_mark b h) refl refl
 
--- with the gap behind it
+-- A mark, with the spaces and comments behind it passed over, is one piece of the text.
 pub mark_read : (b : ℕ) (text behind rest : List ℕ) → class b ≡ operator → text ≡ b ∷ behind → PassesTokens behind [] rest
     → PassesTokens text (mark b ∷ []) rest
 mark_read b text behind rest h e gap = passes_then text behind rest (mark b ∷ []) [] (passes_mark b text behind h e) gap

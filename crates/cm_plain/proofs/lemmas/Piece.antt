@@ -156,7 +156,7 @@ not_all : (x y z w : Bool) → (x ≡ true → y ≡ false) → (x && y && z && 
 not_all false y z w h = refl
 not_all true y z w h = rw (h refl)
 
--- one more spelling
+-- With one spelling more in front, the lexemes are its own and those of the others.
 joined : (x : List ℕ) (xs : List (List ℕ)) (l : Lexeme)
     → ((rest : List ℕ) → lex between (x ++ rest) ≡ l ∷ lex between rest)
     → lex between (join_with_byte 32 (x ∷ xs)) ≡ l ∷ lex between (join_with_byte 32 xs)

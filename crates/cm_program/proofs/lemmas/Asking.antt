@@ -64,7 +64,7 @@ no_other {own = own} {other = other} is_own is same asks holds fails =
     let one : own ≡ other = one_call is same asks in
     absurd (true≢false (sym holds ∙ ap is_own one ∙ fails))
 
--- and something is asked for
+-- Words that ask for something have no fault.
 pub no_fault : {A : Type 0} {read : WordsResult Call} {found own : Call} {fault : WordsFault} → read ≡ Ok found → found ≡ own → read ≡ Err fault → A
 no_fault is same asks = absurd (cc (is, asks))
 

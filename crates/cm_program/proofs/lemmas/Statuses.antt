@@ -12,7 +12,7 @@ not_run n status other (inl none) is = absurd (true≢false (sym other ∙ ap no
 not_run n status other (inr (inl four)) is = absurd (true≢false (sym other ∙ ap no_run (sym is ∙ four)))
 not_run n status other (inr (inr six)) is = absurd (true≢false (sym other ∙ ap no_run (sym is ∙ six)))
 
--- the run of a script
+-- A status that no run of a script has: none of 0, 3, 4, 6 and 7.
 abbrev pub no_script : ℕ → Bool
 no_script n = no_run n && (not (n == 3) && not (n == 7))
 
@@ -24,7 +24,7 @@ not_script n status other (inl (inr (inr six))) is = absurd (true≢false (sym o
 not_script n status other (inr (inl three)) is = absurd (true≢false (sym other ∙ ap no_script (sym is ∙ three)))
 not_script n status other (inr (inr seven)) is = absurd (true≢false (sym other ∙ ap no_script (sym is ∙ seven)))
 
--- sessions
+-- A status that no service has: none of 0, 5 and 6.
 abbrev pub no_serve : ℕ → Bool
 no_serve n = not (n == 0) && (not (n == 5) && not (n == 6))
 
@@ -99,7 +99,7 @@ at_told same holds is = holds (sym same ∙ is)
 pub but_told : {P : Type 0} {status told m n : ℕ} → status ≡ told → (told ≢ m → told ≢ n → P) → status ≢ m → status ≢ n → P
 but_told same holds other another = holds (λ is. other (same ∙ is)) (λ is. another (same ∙ is))
 
--- a check
+-- A status that no check has: none of 0, 1, 3, 4 and 6.
 abbrev pub no_check : ℕ → Bool
 no_check n = not (n == 0) && (not (n == 1) && (not (n == 3) && (not (n == 4) && not (n == 6))))
 

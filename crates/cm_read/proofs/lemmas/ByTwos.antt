@@ -29,7 +29,7 @@ pub reads_then : {A X : Type 0} (value : A) (first : ReadResult A) (next : A →
     → (first >>= next) ≡ all → first ≡ Ok value → all ≡ next value
 reads_then value first next all e f = sym e ∙ ap (λ r. r >>= next) f
 
--- the same of what is made from that
+-- A result that is made from the value of a first reading is what both give.
 pub gives_then : {A X : Type 0} (value : A) (first : ReadResult A) (next : A → ReadResult X) (all result : ReadResult X)
     → (first >>= next) ≡ all → first ≡ Ok value → GivesReading result (next value) → GivesReading result all
 gives_then value first next all result e f h =

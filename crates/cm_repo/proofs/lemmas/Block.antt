@@ -112,12 +112,12 @@ found_last (b ∷ blocks) bytes key absent = by (bytes_eq key b.0) absent (found
     by true none later = absurd (true≢false (ap is_some none))
     by false none later = later none
 
--- and is found under no other key
+-- With a block more under another key, what is found under a key is as before.
 others_as_before : (blocks : Blocks) (bytes key other : List ℕ) → other ≢ key → block_at (blocks ++ (key, bytes) ∷ []) other ≡ block_at blocks other
 others_as_before [] bytes key other apart = ap (λ same. cond same (Some bytes) None) (false_from_ne_true (bytes_eq other key) (λ same. apart ((bytes_eq-Decides other key).0 same)))
 others_as_before (b ∷ blocks) bytes key other apart = ap (cond (bytes_eq other b.0) (Some b.1)) (others_as_before blocks bytes key other apart)
 
--- so the blocks with one more are found under their keys
+-- With a block more, all blocks are found under their keys.
 pub FindsAlso-push : (blocks : Blocks) (url bytes key : List ℕ) → key_of url ≡ Ok key → block_at blocks key ≡ None → FindsAlso blocks (blocks ++ (key, bytes) ∷ []) url bytes
 FindsAlso-push blocks url bytes key is absent = record {
   found = λ k same. subst (λ q. block_at (blocks ++ (key, bytes) ∷ []) q ≡ Some bytes) (key_of-one url key k is same) (found_last blocks bytes key absent);

@@ -51,7 +51,7 @@ escaped : absolute_of (codes "") (codes "fuchsia-pkg://t/x/../a b#meta/root cm")
 unfolding url_on_literals absolute_of key_of
 escaped = refl
 
--- but for a path that doesn't begin with a slash, whose spaces stay, so that no manifest could have the text
+-- Spaces of a path that doesn't begin with a slash stay in its URL, which is then bad.
 space_stays : absolute_of (codes "") (codes "foo:a b#x") ≡ Err BadUrl
 unfolding url_on_literals absolute_of key_of
 space_stays = refl
@@ -61,7 +61,7 @@ repeated : added ((codes "fuchsia-pkg://t/a%20b#meta/root.cm", codes "{}") ∷ [
 unfolding url_on_literals key_of
 repeated = refl
 
--- another fragment is another key
+-- A URL with another fragment is added under another key.
 two_blocks : added ((codes "fuchsia-pkg://t/a#meta/root.cm", codes "{}") ∷ []) (codes "fuchsia-pkg://t/a#meta/logger.cm") (codes "[]")
     ≡ Ok ((codes "fuchsia-pkg://t/a#meta/root.cm", codes "{}") ∷ (codes "fuchsia-pkg://t/a#meta/logger.cm", codes "[]") ∷ [])
 unfolding url_on_literals key_of

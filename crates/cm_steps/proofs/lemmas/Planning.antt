@@ -291,7 +291,7 @@ module _ (old new : List Row) (next n m : ℕ) (was : IsOrderly old next) (is : 
 
 -- ---- entries
 
--- behind an entry that leaves the rows as they are
+-- Behind an entry that leaves the rows as they are a plan is still one.
 pub planned_same : (rows : List Row) (emptied : Bool) (old new : DescentPlan) → IsPlan rows old → IsPlannedBy emptied old new → IsPlan rows new
 planned_same rows true old new it by = plan_none rows new by
 planned_same rows false old new it by = subst (IsPlan rows) (sym by) it
@@ -306,7 +306,7 @@ planned_by w e false old new healthy step told it by =
     (plan_stays w.rows (after w e).rows w.next_inc (after w e).next_inc w.next_inc healthy.sound.orderly leads.sound.orderly
     (sym (bare_rows_stay w e healthy.sound.orderly.increasing (sym told))) goes.follows old it)
 
--- behind any entry that the tree allows
+-- Behind any entry that the tree allows the plan is one of the tree that is left.
 pub planned_after : (a : Inside) (e : Entry) (doomed : Bool) (rows : List Row) (plan : DescentPlan) → LeavesTree (story_of a) (world_in a) → IsStep (world_in a) e → (after (world_in a) e).rows ≡ rows → IsReported (world_in a) e doomed → IsPlan a.table.rows a.records.plan → IsPlannedBy (is_emptied e.event e.reply doomed) a.records.plan plan → IsPlan rows plan
 planned_after a e doomed rows plan stands step moves told it by =
     subst (λ rs. IsPlan rs plan) moves

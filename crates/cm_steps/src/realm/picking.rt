@@ -143,7 +143,8 @@ impl Realm {
         }
     }
 
-    /// Puts down that an instance whose program doesn't run is shut.
+    /// Puts down that a pick for the target chose an instance whose program doesn't run, which is shut then.
+    /// [`Realm::pick_by`] calls it for an instance that may be picked, where the history has room.
     fn shut(&mut self, caller: u32, target: u64, inc: u64) -> Result<Reply, NoStep>
         requires closing { IsTrue (may_close (world_of self.old).rows target) }
         requires picks { PicksOff (world_of self.old).rows target inc }

@@ -79,7 +79,7 @@ by_row_leads : (rows : List Row) (i q : ℕ) (name : List ℕ) (o : Option Row) 
 by_row_leads rows i q name None here e = absurd (none_some q e)
 by_row_leads rows i q name (Some r) here e = by_above_leads rows i q name r r.parent here refl e
 
--- a step leads to the parent
+-- A step of a storage's way leads to the parent of the row.
 pub step_leads : (rows : List Row) (i q : ℕ) (name : List ℕ) → leads_to (onward rows i name) ≡ Some q → HasParent rows i q
 step_leads rows i q name e = by_row_leads rows i q name (row_of rows i) refl e
 
@@ -113,7 +113,7 @@ below_parent : (rows : List Row) (next i p : ℕ) → IsOrderly rows next → Ha
 below_parent rows next i p orderly above =
     name_below rows next i p above.row above.row.name orderly above.lives above.parent refl (orderly.parents i p above.row above.lives above.parent).1
 
--- and below what its parent stands below
+-- What stands below a row stands below what that row stands below.
 below_more : (rows : List Row) (o p i : ℕ) → StandsBelow rows o p → StandsBelow rows p i → StandsBelow rows o i
 below_more rows o p i high low = record {
   before = (high.before ++ high.last ∷ []) ++ low.before;

@@ -37,7 +37,7 @@ folders_more names i c so_far one two all folder word below at is said first sec
     size_by : length (drop (i + 1) names) + (i + 1) ≡ length names
     size_by = omega (arith, length-drop (i + 1) names)
 
--- the same, where the names are what is seen of others
+-- The folders of names that are seen of other values, one by one, are those of the names.
 pub folders_seen : {X : Type 0} (f : X → ChildName) (xs : List X) (i : ℕ) (x : X) (so_far one two all : List (List ℕ)) (folder word : List ℕ) → i < length xs → x ≡ get_or xs i x → folder ≡ child_text (f x) → word ≡ cond (i + 1 == length xs) (codes "data") (codes "children") → one ≡ so_far ++ folder ∷ [] → two ≡ one ++ word ∷ [] → so_far ++ parts_of (drop i (map f xs)) ≡ all → two ++ parts_of (drop (i + 1) (map f xs)) ≡ all
 folders_seen f xs i x so_far one two all folder word below at is said first second before =
     folders_more (map f xs) i (f x) so_far one two all folder word

@@ -49,7 +49,7 @@ looks_judged d f a b c e found is₁ is₂ is₃ is₄ =
     at : {l m : ParentLook} (test : ℕ → Bool) → l ≡ m → IsFirstAt test m.row → IsFirstAt test l.row
     at {l} {m} test same first = subst (λ (x : ParentLook). IsFirstAt test x.row) (sym same) first
 
--- as it is told
+-- Where no fault is told of all rules, none is broken.
 pub none_judged : (d : Decl) (o : Option Fault) → IsJudged (rules_of d) o → None ≡ option_map told o → HasNoFault (rules_of d)
 none_judged d None judged e = judged
 none_judged d (Some f) judged e = absurd cc

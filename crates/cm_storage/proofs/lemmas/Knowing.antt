@@ -72,7 +72,7 @@ under_by rows o i names stands =
 pub under_itself : (rows : List Row) (i : ℕ) → StandsUnder rows i i
 under_itself rows i = under_by rows i i [] (sym (append-nil (moniker_of rows i).parts))
 
--- one below who stands so has one name more
+-- The names of a child below one that stands under an owner are the owner's, those below, and its own.
 below_names : (rows : List Row) (o p i : ℕ) (c : ChildName) → IsToldChildOf rows i p c → StandsUnder rows o p → (moniker_of rows i).parts ≡ (moniker_of rows o).parts ++ (names_below rows o p ++ c ∷ [])
 below_names rows o p i c child under =
     child.names ∙ ap (λ l. l ++ c ∷ []) under ∙ append_assoc (moniker_of rows o).parts (names_below rows o p) (c ∷ [])
@@ -110,7 +110,7 @@ err_by : (rows : List Row) (builtins : List Builtin) (p i o : ℕ) (s : Storage)
 err_by rows builtins p i o s true f e it = record { backing = it.backing; is_backing = it.is_backing; placed = err_in rows p i o s it.backing e it.placed }
 err_by rows builtins p i o s false f e it = it
 
--- a fault is that of both
+-- Where a storage's way ends with a fault, it is that of each row that has this way.
 err_stays : (rows : List Row) (builtins : List Builtin) (p i : ℕ) (found : Found) (e : StorageFault) → IsPlacedBy rows builtins p found (Err e) → IsPlacedBy rows builtins i found (Err e)
 err_stays rows builtins p i (Err x) e it = it
 err_stays rows builtins p i (Ok found) e it = err_by rows builtins p i found.0 found.1 found.1.by_moniker _ e it
@@ -176,7 +176,7 @@ is_known : {E : Type 0} (r : Result KnownPlace E) (k : KnownPlace) (P : KnownPla
 is_known (Ok known) k P it same = subst P (sym same) it
 is_known (Err e) k P it same = tt
 
--- as it is made
+-- What is known of a place, made of its owner and the names below it, is right there.
 pub known_at : {E : Type 0} (rows : List Row) (builtins : List Builtin) (p o : ℕ) (s : Storage) (place : Place) (r : Result KnownPlace E) → StandsUnder rows o p → IsPlacedBy rows builtins p (Ok (o, s)) (Ok place) → IfOk r (λ known. known ≡ stands place (names_below rows place.owner p)) → IfOk r (IsKnownBy rows builtins p (Ok (o, s)))
 known_at rows builtins p o s place r under it made =
     is_known r (stands place (names_below rows place.owner p)) (IsKnownBy rows builtins p (Ok (o, s))) (known_some rows builtins p (o, s) place under it) made
@@ -186,12 +186,12 @@ pub known_fault : {E : Type 0} (rows : List Row) (builtins : List Builtin) (p : 
 known_fault rows builtins p found e (Ok known) it made fine = subst (IsKnownBy rows builtins p found) (sym made) (none e (it fine))
 known_fault rows builtins p found e (Err x) it made fine = tt
 
--- by a way that is known
+-- What is known by the end of a way is known by the way.
 pub known_way : {E : Type 0} (rows : List Row) (builtins : List Builtin) (p : ℕ) (name : List ℕ) (found : Found) (r : Result KnownPlace E) → IsWay rows p name found → IfOk r (IsKnownBy rows builtins p found) → IfOk r (IsKnown rows builtins p (On p name))
 known_way rows builtins p name found (Ok known) way it = (found, way, it)
 known_way rows builtins p name found (Err x) way it = tt
 
--- by a way that ends with a fault
+-- What is known by a way that ends with a fault is that fault.
 pub fault_way : {E : Type 0} (rows : List Row) (builtins : List Builtin) (p : ℕ) (name : List ℕ) (e : StorageFault) (r : Result KnownPlace E) → (e ≢ fault.Memory → IsWay rows p name (Err e)) → IfOk r (λ known. known ≡ refused e) → IfOk r (λ _. e ≢ fault.Memory) → IfOk r (IsKnown rows builtins p (On p name))
 fault_way rows builtins p name e (Ok known) way made fine =
     (Err e, way fine, subst (IsKnownBy rows builtins p (Err e)) (sym made) (none e refl))
@@ -213,7 +213,7 @@ pub way_of : (rows : List Row) (i : ℕ) (name : List ℕ) (step : Onward) (foun
 way_of rows i name (On p other) found is leads = goes is leads
 way_of rows i name (Ends end) found is leads = ends (is ∙ ap Ends leads)
 
--- what is told of a child
+-- The text that is told of a row's storage: that of the place, or of the fault, which is found.
 pub record IsToldOf (rows : List Row) (builtins : List Builtin) (i : ℕ) (found : Found) (text : List ℕ) : Type 0 where
   pub placed : Placed
   pub is_placed : IsPlacedBy rows builtins i found placed

@@ -54,11 +54,11 @@ put_adds o v old new k name to is free at q =
     adds_by o v old new k q (same k q) refl is (is_some_false (get same old k) free) (at q)
     ∙ ap (λ t. option_or (offer_in old q) (cond t (Some o) None)) (sym (at_key o k q name to))
 
--- an index of no offer
+-- An empty index is one of no offers.
 pub index_none : {S : Type 0} (index : HashMap Key (Bor StorageOffer) S) → index.entries ≡ [] → IsIndexOf [] index
 index_none index e q = ap (λ es. option_copied (lookup (same q) es)) e
 
--- an index of one offer more
+-- With one offer more put in, the index is that of the offers so far.
 pub index_more : {S : Type 0} (offers : List StorageOffer) (i : ℕ) (o : StorageOffer) (old new : HashMap Key (Bor StorageOffer) S) → i < length offers → o ≡ get_or offers i o → IsIndexOf (take i offers) old → IsPutInIndex o old new → IsIndexOf (take (i + 1) offers) new
 index_more offers i o old new below at before put q =
     put q

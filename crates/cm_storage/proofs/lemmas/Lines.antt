@@ -116,7 +116,7 @@ pub kept_told : {Z : Type 0} (rows : List Row) (builtins : List Builtin) (s : Pa
 kept_told rows builtins s own name known c old new standing is gains =
     (known, kept_known rows builtins s.inc s.offers s.handed.items own name known standing.handed is, gains)
 
--- a storage more is kept
+-- With one storage more that is handed on, what stands at hand of a parent still stands.
 pub keeps : (rows : List Row) (builtins : List Builtin) (h : Handed) (old new : ParentAtHand) → IsStanding rows builtins old → IsHanded rows builtins old.inc old.offers h → new.inc ≡ old.inc → new.offers ≡ old.offers → new.prefix ≡ old.prefix → new.handed.items ≡ old.handed.items ++ h ∷ [] → StaysStanding rows builtins old new
 keeps rows builtins h old new standing handed inc offers prefix more = record {
   standing = record {

@@ -23,7 +23,7 @@ named_more rows next i at p c orderly above name is so_far = λ named.
     names-up rows next at orderly ∙ sym (ap₂ (λ o n. names_to (length rows) rows o ++ option_to_list n) above name) in
     so_far (subst (All IsChildName) (sym both) (All-append IsChildName (names_to (length rows) rows (Some p)) (c ∷ []) named (All-cons IsChildName c [] is (All-nil IsChildName))))
 
--- nothing stands above the last
+-- Names up to a row that has no parent are all names of the way.
 pub named_all : (rows : List Row) (next i at : ℕ) → IsOrderly rows next → None ≡ option_and_then (λ (r : Row). r.parent) (row_of rows at) → None ≡ name_of rows at → AreNamedFrom rows i at → AreNamed rows i
 named_all rows next i at orderly top bare so_far =
     let none : names_to (length rows) rows (Some at) ≡ [] =

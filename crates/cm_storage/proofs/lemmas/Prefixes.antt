@@ -10,7 +10,7 @@ use Rattle.cm_storage.specs.Parts.{parts_of}
 use Rattle.cm_storage.specs.KnownPlace.{folders_text}
 use Rattle.cm_storage.specs.ParentAtHand.{names_text}
 
--- the text of one item more
+-- The texts of items with one more at the end are theirs, and then its own.
 flat_more : {A : Type 0} (f : A → TextBytes) (xs : List A) (x : A) → flat_map f (xs ++ x ∷ []) ≡ flat_map f xs ++ f x
 flat_more f [] x = append-nil (f x)
 flat_more f (y ∷ ys) x = ap (λ t. f y ++ t) (flat_more f ys x) ∙ sym (append_assoc (f y) (flat_map f ys) (f x))
@@ -36,7 +36,7 @@ pub moniker_more : (ps : List ChildName) (c : ChildName) → text_of_parts (ps +
 moniker_more [] c = refl
 moniker_more (d ∷ ds) c = joined_more d ds c
 
--- the folders behind the first name
+-- The folders of names, of which there are more behind the first, are its own, `children`, and the others'.
 parts_step : (d : ChildName) (ds : List ChildName) (c : ChildName) → parts_of (d ∷ (ds ++ c ∷ [])) ≡ child_text d ∷ codes "children" ∷ parts_of (ds ++ c ∷ [])
 parts_step d [] c = refl
 parts_step d (e ∷ es) c = refl
@@ -62,7 +62,7 @@ place_more base folders name tail =
     ∙ ap (λ t. codes "/" ++ t) (sym (append_assoc folders (name ++ codes "/data") tail ∙ ap (λ t. folders ++ t) (append_assoc name (codes "/data") tail)))
     ∙ sym (append_assoc (codes "/") (folders ++ (name ++ codes "/data")) tail)))
 
--- a head with one folder more
+-- A head with folders more at its end is the head of the longer place.
 pub head_more : (base folders more : TextBytes) → (codes " at " ++ (base ++ (codes "/" ++ folders))) ++ more ≡ codes " at " ++ (base ++ (codes "/" ++ (folders ++ more)))
 head_more base folders more =
     append_assoc (codes " at ") (base ++ (codes "/" ++ folders)) more

@@ -47,7 +47,7 @@ pub row_told : {Z : Type 0} (rows : List Row) (builtins : List Builtin) (all : L
 row_told rows builtins all i j old now new below at before tells =
     told_next (RowsTold rows builtins) all i j old now new tells.0 (λ xs rest told. next_row tells.1 told) below at before tells.2
 
--- one text behind another
+-- A text that gains one text and then another gains both.
 pub gains_both : {Z A E : Type 0} (r : Result A E) (old mid new : String Z) (x y : TextBytes) → GainsText old mid x → OnOk r (GainsText mid new y) → OnOk r (GainsText old new (x ++ y))
 gains_both (Ok a) old mid new x y first second = second ∙ ap (λ bytes. bytes ++ y) first ∙ append_assoc (string_bytes old) x y
 gains_both (Err e) old mid new x y first second = tt

@@ -26,6 +26,6 @@ leads_more rows first at p name wanted other leads is found way = leads found (g
 pub leads_end : (rows : List Row) (first at : ℕ) (name wanted : List ℕ) (found : Found) → LeadsFrom rows first name at wanted → Ends found ≡ onward rows at wanted → IsWay rows first name found
 leads_end rows first at name wanted found leads is = leads found (ends (sym is))
 
--- one fault is another
+-- Two results that are the same fault have the same fault.
 pub same_fault : {A : Type 0} (a b : StorageFault) → ◌≡◌ {A = Result A StorageFault} (Err a) (Err b) → a ≡ b
 same_fault a b e = cc

@@ -111,7 +111,7 @@ not_more : (p q : Bool) → IsTrue (not (p || q)) → IsTrue (not q)
 not_more true q h = never h
 not_more false q h = h
 
--- one that lives and wasn't seen is seen
+-- Fewer rows are unseen with one more that lives and wasn't seen.
 unseen_less : (rows : List Row) (seen : List ℕ) (x : ℕ) (r : Row) → row_of rows x ≡ Some r → list_any (λ s. s == x) seen ≡ false → unseen rows (x ∷ seen) < unseen rows seen
 unfolding unseen
 unseen_less rows seen x r lives new =

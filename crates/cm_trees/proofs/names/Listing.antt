@@ -15,7 +15,7 @@ use Rattle.cm_world.proofs.lemmas.trees.Finding.{none_some, some_same, find-pass
 use Rattle.cm_world.proofs.lemmas.trees.Walks.{find-lives}
 use Rattle.cm_trees.proofs.trees.Trees.{or_left, or_right}
 
--- one that passes
+-- Where some item passes, there is one that does.
 pub any_some : {A : Type 0} (q : A → Bool) (xs : List A) → IsTrue (list_any q xs) → (x : A) × IsTrue (q x)
 any_some q [] h = never h
 any_some q (x ∷ xs) h = elim (or_cases (q x) (list_any q xs) h) [ inl here ↦ (x, here) | inr later ↦ any_some q xs later ]

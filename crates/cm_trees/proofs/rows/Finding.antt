@@ -9,7 +9,7 @@ use Rattle.cm_world.specs.Sound.{IncarnationsIncrease}
 pub first_row : (x : Row) (xs : List Row) → row_of (x ∷ xs) x.inc ≡ Some x
 first_row x xs = ap (λ t. cond t (Some x) (row_of xs x.inc)) (eq_self x.inc)
 
--- so some row is
+-- The incarnation of the first row is that of some row.
 pub first_lives : (x : Row) (xs : List Row) → IsTrue (is_some (row_of (x ∷ xs) x.inc))
 first_lives x xs = ap is_some (first_row x xs)
 

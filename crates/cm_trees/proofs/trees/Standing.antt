@@ -43,7 +43,7 @@ below_self rows next i r orderly lives =
     some_above-step (λ r. r.inc == i) rows next i r orderly lives
     ∙ or_left (r.inc == i) (at_or_above (length rows) (λ r. r.inc == i) rows r.parent) ((unsigned_Decides r.inc i).1 (row_of-inc rows i r lives))
 
--- and below what its parent stands below
+-- A row whose parent stands at or below another stands below that one.
 pub below_parent : (rows : List Row) (next top i p : ℕ) (r : Row) → IsOrderly rows next → row_of rows i ≡ Some r → r.parent ≡ Some p → IsTrue (is_below rows top p) → IsTrue (is_below rows top i)
 below_parent rows next top i p r orderly lives parent below =
     some_above-step (λ r. r.inc == top) rows next i r orderly lives

@@ -100,7 +100,7 @@ path_near a b e =
     let same : a.path ≡ b.path = (bytes_decides a.path b.path).0 e in
     subst (λ t. near (zeroed a.path) (zeroed t) ≡ true) same (left_near (zeroed a.path) (zeroed a.path) (covers_itself (zeroed a.path)))
 
--- and near one that it lies inside of, or the other way round
+-- Two uses of which one's path lies inside the other's are near.
 pub nested_near : (a b : Usage) → are_paths_nested a b ≡ true → near (usage_key a) (usage_key b) ≡ true
 nested_near a b e = elim (or_cases (is_inside a.path b.path) (is_inside b.path a.path) e) as (λ _. near (zeroed a.path) (zeroed b.path) ≡ true) [
   | inl one ↦ right_near (zeroed a.path) (zeroed b.path) (inside_covered a.path b.path one)

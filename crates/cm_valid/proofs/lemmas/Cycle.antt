@@ -38,7 +38,7 @@ of_kept keep p [] e = refl
 of_kept keep p (x ∷ xs) e =
     one_more p (keep x) x (filter keep xs) (or_false_first (p x) (list_any p xs) e) (of_kept keep p xs (or_false_second (p x) (list_any p xs) e))
 
--- and by none that is made of one
+-- What holds of no item that is made of another holds of none of the list of these.
 of_made : {A B : Type 0} (f : A → B) (p : B → Bool) (xs : List A) → list_any (λ x. p (f x)) xs ≡ false → list_any p (map f xs) ≡ false
 of_made f p [] e = refl
 of_made f p (x ∷ xs) e =

@@ -54,13 +54,13 @@ or_comm true false = refl
 or_comm false true = refl
 or_comm false false = refl
 
--- one more row that passes under the name that is put in
+-- With one more row that passes under the name that is put in, the names are those of the rows so far.
 pub named_more : {A : Type 0} (test : List ℕ → A → Bool) (rows : List A) (i : ℕ) (row : A) (old new : List (List ℕ)) (text : List ℕ) → i < length rows → row ≡ get_or rows i row → ((name : List ℕ) → bytes_eq name text ≡ test name row) → ((name : List ℕ) → has old name ≡ list_any (test name) (take i rows)) → ((name : List ℕ) → has new name ≡ (bytes_eq name text || has old name)) → (name : List ℕ) → has new name ≡ list_any (test name) (take (i + 1) rows)
 named_more test rows i row old new text below at known before added = λ name.
     added name ∙ ap (λ v. v || has old name) (known name) ∙ ap (λ v. test name row || v) (before name) ∙ or_comm (test name row) (list_any (test name) (take i rows)) ∙
     ap (λ r. list_any (test name) (take i rows) || test name r) at ∙ sym (list_any_more (test name) rows i row below)
 
--- one more row that passes under no name
+-- With one more row that passes under no name, the names are those of the rows so far.
 pub named_same : {A : Type 0} (test : List ℕ → A → Bool) (rows : List A) (i : ℕ) (row : A) (names : List (List ℕ)) → i < length rows → row ≡ get_or rows i row → ((name : List ℕ) → test name row ≡ false) → ((name : List ℕ) → has names name ≡ list_any (test name) (take i rows)) → (name : List ℕ) → has names name ≡ list_any (test name) (take (i + 1) rows)
 named_same test rows i row names below at fails before = λ name.
     before name ∙ or_comm false (list_any (test name) (take i rows)) ∙ ap (λ v. list_any (test name) (take i rows) || v) (sym (fails name)) ∙

@@ -130,7 +130,7 @@ walk_inwards keys k outer apart o q walked there at earlier =
         let same : o ≡ a = same_key keys outer outer o a there here refl in
         subst (λ (x : RowKey). min apart (max o.row q.row) ≤ x.row) same (omega arith)
 
--- one whose row is later does not
+-- A walk along keys goes on past one whose row is later, with the bound that it gives.
 pub walk_along : (keys : List RowKey) (k outer apart : ℕ) (o q : RowKey) → Walked keys k outer apart → slice_get keys outer ≡ Some o → slice_get keys k ≡ Some q → o.row ≤ q.row → Walked keys (k + 1) outer (min apart (max o.row q.row))
 walk_along keys k outer apart o q walked there at later =
     let within : outer < k = walked.within in
@@ -199,7 +199,7 @@ covers_same (a ∷ outer) (b ∷ inner) h e =
 
 -- ---- one more key
 
--- keys of the first n rows
+-- Keys of the first n rows, each with the text and the place of its row.
 pub record AreKeysBelow {A : Type 0} (key : A → List ℕ) (rows : List A) (n : ℕ) (keys : List RowKey) : Type 0 where
   pub whole : length keys ≡ n
   pub each : (i : ℕ) (a : A) → i < n → slice_get rows i ≡ Some a → slice_get keys i ≡ Some (record { text = key a; row = i })

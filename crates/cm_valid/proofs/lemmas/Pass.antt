@@ -31,12 +31,12 @@ same_rows d Graph = refl
 pub none_yet : (d : Decl) (s : Section) → FindsFault d (Below s 0) None
 none_yet d s = λ g st here. absurd (omega arith)
 
--- nor below the next row, if there is none at this one
+-- Where there is no fault below a row and none at it, there is none below the next row.
 pub none_more : (d : Decl) (s : Section) (n : ℕ) (o : Option FoundFault) → FindsFault d (Below s n) None → FindsFault d (At s n) o → is_some o ≡ false → FindsFault d (Below s (n + 1)) None
 none_more d s n o none at e =
     first_below_more d s n None None none (subst (λ (p : Option FoundFault). FindsFault d (At s n) p) (is_some_false o e) at)
 
--- nor in the section, if there is none at any of its rows
+-- Where there is no fault below as many rows as a section has, there is none in it.
 pub none_in : (d : Decl) (s : Section) (n : ℕ) → rows_of d s ≤ n → FindsFault d (Below s n) None → FindsFault d (In s) None
 none_in d s n whole none = first_in_section d s None (λ g st here.
     let same : rows_of d s ≡ faults.rows_of d s = same_rows d s in

@@ -30,7 +30,7 @@ pub row_at : {A : Type 0} (rows all : List A) (i : ℕ) (row : A) → rows ≡ a
 row_at {A} rows all i row same within is =
     slice_get_read all (length all) i row refl within (subst (λ (l : List A). row ≡ get_or l i row) same is)
 
--- what a row passes
+-- An index passes a test as the row at it does.
 pub passes : {A : Type 0} (test : A → Bool) (rows : List A) (i : ℕ) (row : A) (v : Bool) → slice_get rows i ≡ Some row → test row ≡ v → passes_at test rows i ≡ v
 passes {A} test rows i row v at e = ap (λ (o : Option A). option_map_or test o false) at ∙ e
 
@@ -45,7 +45,7 @@ clash_of {A} s clashes rows i row o at e =
 pub looked_through : {A : Type 0} (test : A → Bool) (rows all : List A) (found o : Option ℕ) → rows ≡ all → found ≡ position test rows → found ≡ o → position test all ≡ o
 looked_through {A} test rows all found o same looked told = subst (λ (l : List A). position test l ≡ o) same (sym looked ∙ told)
 
--- the same for rows with names, as they were read and looked through
+-- The first row before one that has its name, by the rows that were looked through, is the first with it.
 pub first_named : {A : Type 0} (s : Section) (name : A → List ℕ) (rows all : List A) (i : ℕ) (row : A) (found o : Option ℕ) → rows ≡ all → i < length all → row ≡ get_or rows i row → found ≡ position (λ e. bytes_eq (name e) (name row)) (take i rows) → found ≡ o
     → first_before s (λ a b. bytes_eq (name a) (name b)) all i ≡ option_map (place s) o
 first_named {A} s name rows all i row found o same within is looked told =
@@ -92,7 +92,7 @@ finds d s i k rule against at fails broken e =
     subst (λ (a : Option RowPlace). IsFirstIn d (At s i) (Some (fault_of (found_at s i rule a)))) e
     (subst (λ (o : Option Rule). IsFirstIn d (At s i) (option_map (fault_by d s i) o)) (find_behind (λ q. breaks d q s i) rules k rule at fails broken) (first_at_row d s i))
 
--- a row that breaks none
+-- Where a row breaks no rule, no fault is found at it.
 pub finds_none : (d : Decl) (s : Section) (i : ℕ) → NonePasses (λ q. breaks d q s i) rules → FindsFault d (At s i) None
 finds_none d s i fails =
     subst (λ (o : Option Rule). IsFirstIn d (At s i) (option_map (fault_by d s i) o)) (find_none (λ q. breaks d q s i) rules fails) (first_at_row d s i)
@@ -103,11 +103,11 @@ finds_none d s i fails =
 abbrev BreaksNoOther : Decl → Section → ℕ → Type 0
 BreaksNoOther d s i = NonePasses (λ q. breaks d q s i) (drop 1 rules)
 
--- the name isn't repeated
+-- Where a row repeats no name and breaks no other rule, no fault is found at it.
 pub named_once : (d : Decl) (s : Section) (i : ℕ) → breaks d RepeatedName s i ≡ false → BreaksNoOther d s i → FindsFault d (At s i) None
 named_once d s i once others = finds_none d s i (once, others)
 
--- it is that of an earlier row
+-- A repeated name is found at a row with the earlier row that has it.
 pub named_before : (d : Decl) (s other : Section) (i first : ℕ) (found : FoundFault) → found ≡ found_at s i RepeatedName (Some (place other first)) → breaks d RepeatedName s i ≡ true → clash d RepeatedName s i ≡ Some (place other first) → FindsFault d (At s i) (Some found)
 named_before d s other i first found is broken clashing =
     subst (λ (f : FoundFault). FindsFault d (At s i) (Some f)) (sym is) (finds d s i 0 RepeatedName (Some (place other first)) refl tt broken clashing)
@@ -123,7 +123,7 @@ pub named_apart : {A : Type 0} (d : Decl) (s : Section) (name : A → List ℕ) 
 named_apart {A} d s name rows n i named apart low =
     named_once d s i (named.broken ∙ ap is_some (clash_apart s name (λ a b. bytes_eq (name a) (name b)) (λ a b e. same_near (name a) (name b) e) rows n i apart low)) named.others
 
--- else it is that of the first earlier row that was found, if one was
+-- A repeated name is found with the first earlier row that was found, or none is where none was.
 pub named_found : {A : Type 0} (d : Decl) (s : Section) (name : A → List ℕ) (rows all : List A) (i : ℕ) (row : A) (found o : Option ℕ) → IsNamed d s name all i → rows ≡ all → i < length all → row ≡ get_or rows i row → found ≡ position (λ e. bytes_eq (name e) (name row)) (take i rows) → found ≡ o
     → FindsFault d (At s i) (option_map (λ first. found_at s i RepeatedName (Some (place s first))) o)
 named_found {A} d s name rows all i row found None named same within is looked told =

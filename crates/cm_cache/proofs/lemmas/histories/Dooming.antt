@@ -48,11 +48,11 @@ none_of old new same (x ∷ xs) =
     let here : newly old new x.inc ≡ false = ap (λ b. not (has_doomed old x.inc) && b) (same x.inc) ∙ not_self (has_doomed old x.inc) in
     ap (λ b. b || list_any (λ r. newly old new r.inc) xs) here ∙ none_of old new same xs
 
--- where all rows are as before
+-- Where all rows are as before, none is newly doomed.
 none_still : (rows : List Row) → some_newly rows rows ≡ false
 none_still rows = none_of rows rows (λ j. refl) rows
 
--- where one row is changed, but not in that
+-- Where one row is changed in anything but its incarnation and its mark, none is newly doomed.
 none_changed : (f : Row → Row) → ((r : Row) → (f r).inc ≡ r.inc) → ((r : Row) → (f r).doomed ≡ r.doomed) → (i : ℕ) (rows : List Row) → some_newly rows (changed i f rows) ≡ false
 none_changed f inc doomed i rows =
     none_of rows (changed i f rows) (λ j. read_changed f inc (λ r. r.doomed) doomed i j rows) (changed i f rows)

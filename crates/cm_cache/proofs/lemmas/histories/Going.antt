@@ -78,7 +78,7 @@ frame_moved w caller (Purge i) (reply.Purged lost) = refl
 frame_moved w caller (Exited i) (reply.Left m) = refl
 frame_moved w caller event r = refl
 
--- it stays
+-- An entry leaves the frame of a tree as it is.
 frame_after : (w : World) (e : Entry) → (after w e).frame ≡ w.frame
 unfolding after
 frame_after w e = frame_moved w e.caller e.event e.reply
@@ -119,7 +119,7 @@ unasked_go_on f es e doomed h up none told beside =
 
 -- ---- an entry that asks for a use
 
--- it moves nothing
+-- An event that asks for a use leaves the tree as it is.
 asked_still : (w : World) (caller : ℕ) (event : Event) (r : Reply) (u : UseKey) → asked_by w event ≡ Some u → moved w caller event r ≡ w
 asked_still w caller (Route i path) r u asks = refl
 asked_still w caller (OpenUse i path) r u asks = refl

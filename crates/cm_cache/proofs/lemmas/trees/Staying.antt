@@ -327,7 +327,7 @@ bare_rows_stay w e up stays =
     (or_false_second (resolves e.event e.reply) (comes_or_goes e.reply) first)
     (or_false_second (resolves e.event e.reply || comes_or_goes e.reply) doomed stays)
 
--- so each walk stays as it is
+-- The law that each walk stays as it is behind an entry that lets nothing go of what is kept.
 pub walks_stay : WalksStay
 walks_stay w e builtins begin v up stays walked =
     walks_read_bare_rows w.rows (after w e).rows builtins begin v (sym (bare_rows_stay w e up stays)) walked

@@ -54,7 +54,7 @@ below_parent k parent child (Err e) some stands named grown = tt
 pub moniker_count : (n : ℕ) (monikers : List Moniker) → monikers ≡ map moniker_of (range_with_len 0 n) → length monikers ≡ n
 moniker_count n monikers are = ap (λ (l : List Moniker). length l) are ∙ length-map-range_with_len moniker_of 0 n
 
--- who stands there
+-- The moniker at a place of the list of all monikers is that of the instance of this number.
 pub stands_at : (n i : ℕ) (monikers : List Moniker) (m : Moniker) → monikers ≡ map moniker_of (range_with_len 0 n) → slice_get monikers i ≡ Some m → m ≡ moniker_of i
 stands_at n i monikers m are at =
     let within : i < n = subst (λ b. i < b) (moniker_count n monikers are) (slice_get_within monikers i m at) in
@@ -62,12 +62,12 @@ stands_at n i monikers m are at =
 
 -- ---- lists
 
--- one more of a list by numbers
+-- With one more at the end, a list by numbers is that of one number more.
 pub made_more : {X : Type 0} (f : ℕ → X) (xs : List X) (x : X) (k : ℕ) → xs ≡ map f (range_with_len 0 k) → x ≡ f k → xs ++ x ∷ [] ≡ map f (range_with_len 0 (k + 1))
 made_more f xs x k is one =
     ap (λ l. l ++ x ∷ []) is ∙ ap (λ (y : _). map f (range_with_len 0 k) ++ y ∷ []) one ∙ sym (map-range_with_len_more f 0 k k (omega arith))
 
--- one more of the numbers that may be children
+-- With one more number looked at, the numbers of children are those of so many numbers.
 pub kids_more : (n k place : ℕ) (kids new : List ℕ) → kids ≡ filter (λ c. nat_lt c n) (range_with_len (k * 4 + 1) place)
     → new ≡ kids ++ cond (nat_lt (k * 4 + 1 + place) n) ((k * 4 + 1 + place) ∷ []) [] → new ≡ filter (λ c. nat_lt c n) (range_with_len (k * 4 + 1) (place + 1))
 kids_more n k place kids new are grown =
@@ -92,7 +92,7 @@ drawn_long n x (suc more) = ap suc (drawn_long n (next_of x) more)
 drawn_some : (n x more rest : ℕ) → more ≡ suc rest → drawn n x more ≡ (next_of x / 65536) % n ∷ drawn n (next_of x) rest
 drawn_some n x more rest is = ap (drawn n x) is
 
--- one draw more
+-- With one draw more at the end, what is drawn and what is left to draw make the same list.
 pub drawn_more : (n x place : ℕ) (draws whole : List ℕ) → place < n → draws ++ drawn n x (n - place) ≡ whole → (draws ++ (next_of x / 65536) % n ∷ []) ++ drawn n (next_of x) (n - (place + 1)) ≡ whole
 drawn_more n x place draws whole lt is =
     let left : n - place ≡ suc (n - (place + 1)) = omega (arith, lt) in
@@ -110,16 +110,16 @@ drawn_all n x place draws whole le is =
     append_none [] = refl
     append_none (y ∷ ys) = ap (λ r. y ∷ r) (append_none ys)
 
--- what is said of draws
+-- The rules by which search finds what draws are.
 pub ruleset draws = (drawn_more, drawn_all, drawn_low, drawn_long)
 
 -- ---- lines
 
--- one line more
+-- With one line more at the end, the lines and those that are left to make make the same list.
 pub turns_more : (j : ℕ) (c : Command) (cs : List Command) (lines whole : List Line) → lines ++ in_turns j (c ∷ cs) ≡ whole → (lines ++ record { line = 0; lane = j % 4; command = c } ∷ []) ++ in_turns (j + 1) cs ≡ whole
 turns_more j c cs lines whole is = append_assoc lines (record { line = 0; lane = j % 4; command = c } ∷ []) (in_turns (j + 1) cs) ∙ is
 
--- each is started where it stands
+-- The starts of all monikers are those of the instances of these numbers, each at its moniker.
 pub starts_are : (monikers : List Moniker) (n : ℕ) → monikers ≡ map moniker_of (range_with_len 0 n) → map start_at monikers ≡ map start_of (range_with_len 0 n)
 starts_are monikers n are = ap (map start_at) are ∙ map-map start_at moniker_of (range_with_len 0 n)
 

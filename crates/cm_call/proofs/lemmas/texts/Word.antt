@@ -43,11 +43,11 @@ number_refused low high text never = by (accepts false (value.Unsigned low high)
     by true is = absurd (never (accepts-Accepts false (value.Unsigned low high) text is))
     by false is = refl
 
--- a text that is no number
+-- A text that is no number of 64 bits is a faulty command line.
 pub number_unread : (low high : ℕ) (text : List ℕ) → (IsNumeral 10 (without_leading_plus text) × (text_number text < 2 ^ 64) → ⊥) → number_in low high (Some text) ≡ Err Usage
 number_unread low high text never = number_refused low high text (λ a. never (a.0, a.1))
 
--- a number within them
+-- A number that is within the bounds is the one that is read of its text.
 pub number_within : (low high number : ℕ) (text : List ℕ) → IsNumeral 10 (without_leading_plus text) × (text_number text < 2 ^ 64) → number ≡ text_number text → low ≤ number → number ≤ high → number_in low high (Some text) ≡ Ok number
 number_within low high number text read is above below =
     ap (λ b. cond b (Ok (text_number text)) (Err Usage))

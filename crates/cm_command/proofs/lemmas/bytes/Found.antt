@@ -22,7 +22,7 @@ pub found_none : (k : ℕ) (xs : List ℕ) (r : Option ℕ) → IsFirstByte (is_
 found_none k xs (Some i) found = tt
 found_none k xs None found = λ j d lt. false_from_ne_true (get_or xs j d == k) (λ yes. found j (omega arith) lt (ap (λ b. b == k) (get_or_default xs j 0 d lt) ∙ yes))
 
--- and else it stands among them
+-- Where a byte is found, it stands among those that were looked through.
 pub found_bound : (k : ℕ) (xs : List ℕ) (r : Option ℕ) → IsFirstByte (is_byte k) xs r → IfSome r (λ i. i < length xs)
 found_bound k xs (Some i) found = found.0.high
 found_bound k xs None found = tt

@@ -16,7 +16,7 @@ use Rattle.cm_command.proofs.lemmas.written.Written.{name_lacks}
 pushed_text : (seen : List ChildName) (c : ChildName) (part : List ℕ) → part ≡ child_text c → map child_text (seen ++ c ∷ []) ≡ map child_text seen ++ part ∷ []
 pushed_text seen c part text = map-append child_text seen (c ∷ []) ∙ ap (λ t. map child_text seen ++ t ∷ []) (sym text)
 
--- one part more
+-- With one part more that a slash ends, the parts that were read and the rest make the same list.
 pub parts_further : (all rest part more : List ℕ) (seen : List ChildName) (c : ChildName) → Lacks 47 part → rest ≡ part ++ 47 ∷ more → part ≡ child_text c → map child_text seen ++ parts_of rest ≡ parts_of all → map child_text (seen ++ c ∷ []) ++ parts_of more ≡ parts_of all
 parts_further all rest part more seen c clean cut text so_far =
     ap (λ ts. ts ++ parts_of more) (pushed_text seen c part text)
@@ -24,7 +24,7 @@ parts_further all rest part more seen c clean cut text so_far =
     ∙ sym (ap (λ ts. map child_text seen ++ ts) (ap parts_of cut ∙ slice_split_at (λ b. b == 47) part 47 more clean refl))
     ∙ so_far
 
--- the last part
+-- With the last part, which no slash ends, the parts that were read are all of them.
 pub parts_ended : (all rest part : List ℕ) (seen : List ChildName) (c : ChildName) → Lacks 47 part → rest ≡ part → part ≡ child_text c → map child_text seen ++ parts_of rest ≡ parts_of all → map child_text (seen ++ c ∷ []) ≡ parts_of all
 parts_ended all rest part seen c clean cut text so_far =
     pushed_text seen c part text

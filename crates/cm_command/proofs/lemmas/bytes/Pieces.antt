@@ -61,7 +61,7 @@ value_snoc n (c ∷ cs) d = value_snoc (n * 10 + (c - 48)) cs d
 capped : (v x m k : ℕ) → m ≡ min v 16 → k ≡ min (m * 10 + x) 16 → k ≡ min (v * 10 + x) 16
 capped v x m k e f = omega arith
 
--- one digit more
+-- With one digit more, a lane's number is that of the digits so far, or 16 where it is more.
 pub lane_more : (ds : List ℕ) (i m k : ℕ) → i < length ds → m ≡ min (value_behind 0 (take i ds)) 16 → k ≡ min (m * 10 + (get_or ds i 0 - 48)) 16 → k ≡ min (value_behind 0 (take (i + 1) ds)) 16
 lane_more ds i m k lt e f =
     capped (value_behind 0 (take i ds)) (get_or ds i 0 - 48) m k e f ∙ ap (λ n. min n 16) (sym (ap (value_behind 0) (take_more ds i 0 lt) ∙ value_snoc 0 (take i ds) (get_or ds i 0)))

@@ -18,7 +18,7 @@ run_passes test w i le k d lt =
     let len : length (take i w) ≡ i = length-take-le i w (omega arith) in
     subst (λ b. test b ≡ true) (sym (get_or-take i w k d (omega arith))) (prefix_len_passes test w k d (omega arith))
 
--- with that one among them they don't
+-- A run of bytes that pass a test ends before one that doesn't: with that one among them they don't all pass.
 pub run_stops : (test : ℕ → Bool) (w r : List ℕ) (n : ℕ) → n ≤ length w → prefix_len test w < n → All (λ b. test b ≡ true) (take n w ++ r) → ⊥
 run_stops test w r n le past all =
     let m : ℕ = prefix_len test w in

@@ -23,7 +23,7 @@ use Rattle.cm_command.proofs.lemmas.written.Written.{name_lacks}
 
 -- ---- the names of a child, cut at the colon
 
--- no name yet, one, or two
+-- How many names of a child's text came so far: none yet, one, or two.
 data Names : Type 0 where
   no_name : Names
   one_name : List ℕ → Names

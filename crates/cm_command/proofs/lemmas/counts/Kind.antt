@@ -29,7 +29,7 @@ counts_same {P} {Q} w n to from h = record {
   stops = λ le more. h.stops le (begins_as (take n w) from more);
 }
 
--- a kind of no text
+-- Where no text is of a kind, no prefix of a word begins one.
 pub counts_none : {P : List ℕ → Type 0} (w : List ℕ) → ((t : List ℕ) → P t → ⊥) → CountsPrefixes P w 0
 counts_none {P} w never = record {
   within = omega arith;
@@ -37,7 +37,7 @@ counts_none {P} w never = record {
   stops = λ le more. never (take 0 w ++ more.0) more.1;
 }
 
--- a text of the kind
+-- Of a word that is itself of the kind all prefixes begin one.
 pub counts_whole : {P : List ℕ → Type 0} (w : List ℕ) → P w → CountsPrefixes P w (length w + 1)
 counts_whole {P} w h = record {
   within = omega arith;
@@ -61,7 +61,7 @@ counts_stop {P} w i lt prefix never = record {
   stops = λ le more. never more;
 }
 
--- all bytes go on
+-- Where the whole word can be completed, all its prefixes begin a text of the kind.
 pub counts_all : {P : List ℕ → Type 0} (w : List ℕ) (i : ℕ) → i ≡ length w → HasCompletion P (take i w) → CountsPrefixes P w (i + 1)
 counts_all {P} w i all prefix = record {
   within = omega arith;
@@ -110,7 +110,7 @@ counts_literal l w m in_l in_w same differs = record {
         let at : get_or (take (m + 1) w ++ more.0) m 0 ≡ get_or w m 0 = get_or_append_left (take (m + 1) w) more.0 0 m (omega arith) ∙ get_or-take (m + 1) w m 0 (omega arith) in
         differs (omega arith) (omega arith) (sym (ap (λ x. get_or x m 0) more.1) ∙ at)
 
--- one literal more
+-- With one literal more, as many prefixes begin one of them as the greater of the two counts.
 pub counts_one_more : (ls : List (List ℕ)) (w d : List ℕ) (i m n k : ℕ) → i < length ls → k ≡ max m n → CountsPrefixes (Contains (take i ls)) w m → CountsPrefixes (λ t. t ≡ get_or ls i d) w n → CountsPrefixes (Contains (take (i + 1) ls)) w k
 counts_one_more ls w d i m n k lt e g h =
     let more : take (i + 1) ls ≡ take i ls ++ get_or ls i d ∷ [] = take_more ls i d lt in
@@ -167,7 +167,8 @@ pub record IsBehind (prefix : List ℕ) (P R : List ℕ → Type 0) : Type 0 whe
   pub whole : (x : List ℕ) → P x → R (prefix ++ x)
   pub some : HasCompletion P []
 
--- the word has the prefix
+-- Of a word with the prefix, as many prefixes begin a text as the prefix has bytes and its rest has such
+-- ones.
 pub counts_behind : {P R : List ℕ → Type 0} (prefix w u : List ℕ) (n : ℕ) → IsBehind prefix P R → w ≡ prefix ++ u → CountsPrefixes P u n → CountsPrefixes R w (length prefix + n)
 counts_behind {P} {R} prefix w u n b e h =
     let one : 1 ≤ n = some_prefix u n h b.some in
@@ -187,7 +188,7 @@ counts_behind {P} {R} prefix w u n b e h =
 short_or_long : (n len : ℕ) → (n ≤ len) ⊎ (len ≤ n)
 short_or_long n len = grind arith
 
--- the word doesn't have the prefix
+-- Where the word doesn't have the prefix, its prefixes count as those of the prefix alone.
 pub counts_no_prefix : {P R : List ℕ → Type 0} (prefix w : List ℕ) (n : ℕ) → IsBehind prefix P R → ((x : List ℕ) → w ≡ prefix ++ x → ⊥) → CountsPrefixes (λ t. t ≡ prefix) w n → CountsPrefixes R w n
 counts_no_prefix {P} {R} prefix w n b never h = record {
   within = h.within;

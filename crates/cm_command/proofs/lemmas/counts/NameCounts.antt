@@ -29,7 +29,7 @@ name_utf8 [] h = absurd h
 name_utf8 (b ∷ bs) h =
     ascii_text (b ∷ bs) (All-cons (λ c. c < 128) b bs (begins_low b h.1) (λ k d lt. continues_low _ (h.2 k d lt)))
 
--- no byte
+-- Of an empty word the one prefix begins a name.
 pub no_byte : CountsPrefixes IsName [] 1
 no_byte = record {
   within = omega arith;

@@ -85,7 +85,7 @@ decimal_more [] b h some digit = absurd h
 decimal_more (d ∷ ds) b h some digit =
     (h.0, All-append (λ c. IsTrue (is_digit c)) ds (b ∷ []) h.1 (All-cons (λ c. IsTrue (is_digit c)) b [] digit (All-nil (λ c. IsTrue (is_digit c)))), λ is. let alone : ds ≡ [] = h.2 is in let value : value_behind (0 * 10 + (d - 48)) ds ≡ 0 * 10 + (d - 48) = ap (value_behind (0 * 10 + (d - 48))) alone in absurd (some (value ∙ omega arith)))
 
--- one digit more
+-- With one digit more, which fits in 64 bits, the number so far is that of the digits so far.
 pub digit_more : (w : List ℕ) (i n m : ℕ) → i < length w → IsSoFar w i n → (0 < i → n ≢ 0) → IsTrue (is_digit (get_or w i 0)) → m ≡ n * 10 + (get_or w i 0 - 48) → m < 2 ^ 64 → IsSoFar w (i + 1) m
 digit_more w zero n m lt far some digit e small =
     let cut : take (0 + 1) w ≡ take 0 w ++ get_or w 0 0 ∷ [] = take_more w 0 0 lt in

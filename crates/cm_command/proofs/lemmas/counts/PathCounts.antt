@@ -44,7 +44,7 @@ further_is : (w r : List ℕ) (i : ℕ) → i < length w → take (i + 1) w ++ r
 further_is w r i lt =
     ap (λ t. t ++ r) (take_more w i 0 lt) ∙ append_assoc (take i w) (get_or w i 0 ∷ []) r
 
--- the next byte leads nowhere
+-- Where the next byte leads nowhere, the prefixes up to it are those that begin a path's parts.
 pub stuck : (w : List ℕ) (limit i : ℕ) (p : PathState) → i < length w → IsUnderWay w limit i p → ((t : List ℕ) → is_relative (path_prefix p ++ get_or w i 0 ∷ t) ≡ false) → CountsPrefixes (AreParts limit) w (i + 1)
 stuck w limit i p lt way never =
     counts_stop w i lt (prefix w limit i p (omega arith) way) (λ more. true≢false (sym more.1.0 ∙ ap is_relative (further_is w more.0 i lt) ∙ way.leads (get_or w i 0 ∷ more.0) ∙ never more.0))
@@ -60,7 +60,7 @@ unended w limit i p q lt way goes last wants =
     let len : length (take (i + 1) w) ≡ i + 1 = length-take-le (i + 1) w (omega arith) in
     counts_stop w i lt (prefix w limit i p (omega arith) way) (λ more. let none : more.0 ≡ [] = nil_from_length more.0 (omega (arith, more.1.1, length-append (take (i + 1) w) more.0)) in true≢false (sym more.1.0 ∙ ap is_relative (further_is w more.0 i lt) ∙ way.leads (get_or w i 0 ∷ more.0) ∙ goes more.0 ∙ ap (λ r. is_relative (path_prefix q ++ r)) none ∙ ap is_relative (append-nil (path_prefix q)) ∙ wants))
 
--- the next byte leads on
+-- Where the next byte leads on, one byte more is under way.
 pub further : (w : List ℕ) (limit i : ℕ) (p q : PathState) → i < length w → IsUnderWay w limit i p → ((t : List ℕ) → is_relative (path_prefix p ++ get_or w i 0 ∷ t) ≡ is_relative (path_prefix q ++ t)) → i + 1 ≤ limit → (is_relative (path_prefix q) ≡ false → i + 1 < limit) → IsUnderWay w limit (i + 1) q
 further w limit i p q lt way goes short room = record {
   leads = λ t. ap is_relative (further_is w t i lt) ∙ way.leads (get_or w i 0 ∷ t) ∙ goes t;
@@ -68,7 +68,7 @@ further w limit i p q lt way goes short room = record {
   room = room;
 }
 
--- all bytes lead on
+-- Where all bytes lead on, all prefixes begin a path's parts.
 pub ended : (w : List ℕ) (limit i : ℕ) (p : PathState) → i ≡ length w → IsUnderWay w limit i p → CountsPrefixes (AreParts limit) w (length w + 1)
 ended w limit i p all way =
     subst (λ n. CountsPrefixes (AreParts limit) w (n + 1)) all (counts_all w i all (prefix w limit i p (omega arith) way))

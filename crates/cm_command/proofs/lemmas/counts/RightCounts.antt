@@ -45,7 +45,7 @@ one_of_more : (ls : List (List ℕ)) (i : ℕ) (t : List ℕ) → i < length ls 
 one_of_more ls i t lt h =
     Contains-push_cases (take i ls) (get_or ls i []) t (subst (λ xs. Contains xs t) (take_more ls i [] lt) h)
 
--- the next word is used
+-- Where the next word is used already, as many prefixes count as without it.
 left_used : (used ls : List (List ℕ)) (w : List ℕ) (i m : ℕ) → i < length ls → list_any (bytes_eq (get_or ls i [])) used ≡ true → CountsPrefixes (IsLeft used (take i ls)) w m → CountsPrefixes (IsLeft used (take (i + 1) ls)) w m
 left_used used ls w i m lt is h =
     counts_same {P = IsLeft used (take i ls)} {Q = IsLeft used (take (i + 1) ls)} w m (λ t p. (one_more ls i t lt p.0, p.1)) (λ t q. (⊎_elim (λ x. x) (λ e. absurd (true≢false (sym is ∙ ap (λ x. list_any (bytes_eq x) used) e ∙ q.1))) (one_of_more ls i t lt q.0), q.1)) h
@@ -113,7 +113,7 @@ lack_commas = (lacks_by 44 (codes "connect") refl, (lacks_by 44 (codes "enumerat
 
 -- ---- lists of words
 
--- the first word of faultless ones
+-- The first of some words is faultless, behind those before it, and so are the others.
 pub record IsFirst (earlier : List (List ℕ)) (w : List ℕ) (ws : List (List ℕ)) : Type 0 where
   pub set : RightSet
   pub known : rights_of_word w ≡ Some set
@@ -259,7 +259,7 @@ says_next used p more lacks h =
     let led = more_says 44 steps ends used p more lacks h in
     subst (λ a. SaysText 44 steps ends a more) led.1.1 led.2
 
--- an unused word, and a comma
+-- With an unused word and a comma behind it, reading goes on behind these, with that word used.
 pub further : (w : List ℕ) (used : List (List ℕ)) (place : ℕ) (rest p more : List ℕ) → IsOnward w used place rest → Lacks 44 p → IsUnused used p → rest ≡ p ++ 44 ∷ more → IsOnward w (used ++ p ∷ []) (place + length p + 1) more
 further w used place rest p more on lacks unused e =
     let st = step_on used p on.good unused in
@@ -276,7 +276,7 @@ wants_piece : (used : List (List ℕ)) (rest p : List ℕ) → Lacks 44 p → Be
 wants_piece used rest p lacks begins h =
     ⊎_elim (λ e. (word_says 44 steps ends used p lacks (subst (SaysText 44 steps ends used) e h)).1.0) (λ m. (more_says 44 steps ends used p m.0 lacks (subst (SaysText 44 steps ends used) m.1 h)).1.0) begins
 
--- no unused word
+-- Where the next piece is no unused word, the fault of the rights is that of the piece, behind what was read.
 pub stuck : (w : List ℕ) (used : List (List ℕ)) (place : ℕ) (rest p : List ℕ) (e f : WordFault) → IsOnward w used place rest → Lacks 44 p → BeginsWithPiece 44 p rest → f ≡ fault_behind place e → IsWordFault (IsUnused used) p e → IsWordFault (λ t. (r : RightSet) × IsRightsText t r) w f
 stuck w used place rest p (Bad n) f on lacks begins same h =
     subst (IsWordFault IsSomeRights w) (sym same) (on.never (λ says. h.0 (wants_piece used rest p lacks begins says)), on.counts n (counts_piece 44 steps ends words used p rest n lacks (λ some. h.0 some.1.0) (counts_same {P = IsUnused used} {Q = Wants steps used} p n (λ t u. (used ++ t ∷ [], step_on used t on.good u)) (λ t u. u.1.0) h.1) begins))
@@ -287,7 +287,7 @@ faultless : (r : Result RightSet RightsFault) (v : RightSet) → rights_if_fault
 faultless (Ok q) v h = ap Ok (cc h)
 faultless (Err e) v h = absurd (none-some v h)
 
--- the last word
+-- With the last word, which is unused, the text is that of the rights of all words.
 pub ended : (w : List ℕ) (used : List (List ℕ)) (place : ℕ) (rest p : List ℕ) (v : RightSet) → IsOnward w used place rest → Lacks 44 p → IsUnused used p → rest ≡ p → rights_if_faultless (rights_of (used ++ p ∷ [])) ≡ Some v → IsRightsText w v
 ended w used place rest p v on lacks unused e h =
     on.leads v (subst (λ ps. PiecesLead steps ends used ps v) (sym (ap (pieces 44) e ∙ slice_split_none (λ b. b == 44) p lacks)) (used ++ p ∷ [], step_on used p on.good unused, faultless (rights_of (used ++ p ∷ [])) v h))

@@ -81,7 +81,7 @@ pub fits : {from p : LineState} {line rest : LineBytes} {prefix : ℕ} (h : IsUn
 fits h word (Bad n) short begins fault = omega (arith, h.whole, fault.1.within, piece_within _ word begins)
 fits h word Memory short begins fault = tt
 
--- the word leads nowhere
+-- Where a word leads nowhere from a state, the line's fault is that of the word, behind what was read.
 pub faulty : {from p : LineState} {line rest : LineBytes} {prefix : ℕ} (h : IsUnderWay from line p rest prefix) (word : LineBytes) (e : WordFault) → Lacks 32 word → BeginsWithPiece 32 word rest → IsWordFault (Wants WordLeads p) word e → IsWordFault (SaysText 32 WordLeads EndsLine from) line (fault_behind prefix e)
 faulty {from} {p} {line} {rest} {prefix} h word (Bad n) clean begins fault =
     ((λ all. fault.0 (wanted p rest word clean begins (h.said all))), h.counts n (counts_piece 32 WordLeads EndsLine line_machine p word rest n clean fault.0 fault.1 begins))
@@ -91,7 +91,7 @@ faulty h word Memory clean begins fault = tt
 last_word : (word : LineBytes) → Lacks 32 word → words_of word ≡ word ∷ []
 last_word word clean = slice_split_none (λ b. b == 32) word clean
 
--- the word is the last one
+-- Where the word that leads on is the last one, the line ends there: it says something, or is unended.
 pub ended : {from p : LineState} {line rest : LineBytes} {prefix : ℕ} (h : IsUnderWay from line p rest prefix) (word : LineBytes) (next : LineState) (r : Result ParsedLine WordFault) → Lacks 32 word → rest ≡ word → WordLeads p word next → MatchResult r (λ s. EndsLine next s) (λ e. IsUnended next (length line) e) → MatchResult r (λ s. PiecesLead WordLeads EndsLine from (words_of line) s) (λ e. IsWordFault (SaysText 32 WordLeads EndsLine from) line e)
 ended {from} {p} {line} {rest} h word next (Ok s) clean e st ends =
     h.says s (subst (λ t. PiecesLead WordLeads EndsLine p (words_of t) s) (sym e) (subst (λ ws. PiecesLead WordLeads EndsLine p ws s) (sym (last_word word clean)) (next, st, ends)))

@@ -71,7 +71,7 @@ says_wants k steps ends s p clean h =
     let whole : Lacks k (p ++ f.piece) = All-append (λ b. (b == k) ≡ false) p f.piece clean f.clean in
     ⊎_elim (λ e. let w = word_says k steps ends s (p ++ f.piece) whole (subst (λ r. SaysText k steps ends s (p ++ r)) e h.1) in (f.piece, (w.0, w.1))) (λ e. let w = more_says k steps ends s (p ++ f.piece) e.0 whole (subst (SaysText k steps ends s) (ap (λ r. p ++ r) e.1 ∙ sym (append_assoc p f.piece (k ∷ e.0))) h.1) in (f.piece, (w.0, w.1))) f.whole
 
--- behind a whole piece and a separator
+-- What can be completed behind a whole piece and a separator can be completed from the state behind them.
 pub prefix_says : {S V : Type 0} (k : ℕ) (steps : S → List ℕ → S → Type 0) (ends : S → V → Type 0) → IsMachine k steps ends → (s a : S) (w q : List ℕ) → steps s w a → HasCompletion (SaysText k steps ends s) (w ++ k ∷ q) → HasCompletion (SaysText k steps ends a) q
 prefix_says k steps ends m s a w q st h =
     let more = more_says k steps ends s w (q ++ h.0) (m.clean s w a st) (subst (SaysText k steps ends s) (append_assoc w (k ∷ q) h.0) h.1) in
@@ -119,7 +119,7 @@ stops_by k steps ends m s w t n clean never h begins le more (inl within) =
 stops_by k steps ends m s w t n clean never h begins le more (inr past) =
     ⊎_elim (λ e. absurd (omega (arith, ap length e))) (λ r. let prefix : take n t ≡ w ++ k ∷ [] = ap (λ i. take i t) past ∙ ap (take (length w + 1)) r.1 ∙ take-append-add w (k ∷ r.0) 1 in let says = more_says k steps ends s w more.0 clean (subst (SaysText k steps ends s) (ap (λ x. x ++ more.0) prefix ∙ append_assoc w (k ∷ []) more.0) more.1) in never (says.0, says.1)) begins
 
--- the piece leads nowhere
+-- Where a piece leads nowhere, as many prefixes of the text begin one that is said as of the piece.
 pub counts_piece : {S V : Type 0} (k : ℕ) (steps : S → List ℕ → S → Type 0) (ends : S → V → Type 0) → IsMachine k steps ends → (s : S) (w t : List ℕ) (n : ℕ) → Lacks k w → (Wants steps s w → ⊥) → CountsPrefixes (Wants steps s) w n → BeginsWithPiece k w t → CountsPrefixes (SaysText k steps ends s) t n
 counts_piece k steps ends m s w t n clean never h begins = record {
   within = ⊎_elim (λ e. omega (arith, h.within, ap length e)) (λ r. omega (arith, h.within, ap length r.1, length-append w (k ∷ r.0))) begins;

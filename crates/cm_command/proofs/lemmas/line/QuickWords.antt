@@ -22,7 +22,7 @@ alone rest word clean e = ap words_of e ∙ slice_split_none (λ b. b == 32) wor
 further : (rest word more : LineBytes) → Lacks 32 word → rest ≡ word ++ 32 ∷ more → words_of rest ≡ word ∷ words_of more
 further rest word more clean e = ap words_of e ∙ slice_split_at (λ b. b == 32) word 32 more clean (eq_self 32)
 
--- the word is the last one
+-- Where the word is the last one, what is read of the line is what ends it behind this word.
 pub by_last : (p q : LineState) (rest word : LineBytes) (o : Option Command) → Lacks 32 word → rest ≡ word → WordLeads p word q → IfSome o (λ c. EndsLine q (sentence.Command c)) → IfSome o (LeadsTo p rest)
 by_last p q rest word None clean e st is = tt
 by_last p q rest word (Some c) clean e st is =
@@ -34,7 +34,7 @@ more_by p q rest word more None clean e st is = tt
 more_by p q rest word more (Some c) clean e st is =
     subst (λ ws. PiecesLead WordLeads EndsLine p ws (sentence.Command c)) (sym (further rest word more clean e)) (q, st, is)
 
--- words stand behind it
+-- What is read behind a word that leads on from a state is what is read from that state with the word.
 pub by_more : {E : Type 0} (p q : LineState) (rest word more : LineBytes) (r : Result (Option Command) E) → Lacks 32 word → rest ≡ word ++ 32 ∷ more → WordLeads p word q → IfOk r (λ o. IfSome o (LeadsTo q more)) → IfOk r (λ o. IfSome o (LeadsTo p rest))
 by_more p q rest word more (Ok o) clean e st is = more_by p q rest word more o clean e st is
 by_more p q rest word more (Err x) clean e st is = is
@@ -49,6 +49,6 @@ by_start : {E : Type 0} (line : LineBytes) (r : Result (Option Command) E) → I
 by_start line (Ok o) is = asked line o is
 by_start line (Err x) is = is
 
--- a verb stands before the rest
+-- What is read behind a verb's word is the command that the whole line is the text of.
 pub by_verb : {E : Type 0} (v : Verb) (line word rest : LineBytes) (r : Result (Option Command) E) → Lacks 32 word → line ≡ word ++ 32 ∷ rest → word ≡ verb_word v → IfOk r (λ o. IfSome o (LeadsTo (place.Verb v) rest)) → IfOk r (λ o. IfSome o (CommandText line))
 by_verb v line word rest r clean e it is = by_start line r (by_more place.Start (place.Verb v) line word rest r clean e (v, it, refl) is)

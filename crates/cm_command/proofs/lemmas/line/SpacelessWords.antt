@@ -25,7 +25,7 @@ use Rattle.cm_command.proofs.lemmas.counts.Kind.{Each, of_each}
 use Rattle.cm_command.proofs.lemmas.counts.RightCounts.{is_word, first_word}
 use Rattle.cm_command.proofs.lemmas.written.Written.{AllLack, lacks_by, moniker_lacks, child_lacks, joined_lack}
 
--- the same of a text that is given by an equation
+-- A text that is the same as one without spaces has none.
 pub lacks_same : (w t : LineBytes) → w ≡ t → Lacks 32 t → Lacks 32 w
 lacks_same w t e h = subst (Lacks 32) (sym e) h
 

@@ -233,7 +233,7 @@ verb_there xs i d e lt = ap (λ ys. get_or ys i d) e ∙ get_or_default verbs i 
 below_or_last : (k n : ℕ) → k < n + 1 → (k < n) ⊎ (k ≡ n)
 below_or_last k n h = grind arith
 
--- one verb more
+-- A word of the first verbs with one more of them is a word of those before, or that verb's.
 first_more : (t : LineBytes) (i : ℕ) → IsFirstVerb (i + 1) t → IsFirstVerb i t ⊎ (t ≡ verb_word (get_or verbs i verb.Start))
 first_more t i h =
     ⊎_elim (λ lt. inl (h.0, lt, h.2)) (λ last. inr (h.2 ∙ ap (λ j. verb_word (get_or verbs j verb.Start)) last)) (below_or_last h.0 i h.1)

@@ -20,7 +20,7 @@ at_start bytes d same = subst (λ e. Continuation bytes 1 e bytes) (sym same) st
     start : Continuation bytes 1 no_draft bytes
     start = record { place = 0; whole = omega arith; within = omega arith; early = omega arith; reads = λ e h. h; faults = λ m number at h. h }
 
--- where a line ends
+-- Where a line ends, counted from the beginning, is the size without what is left behind it, also at the end.
 pub end_is : (size place len behind rest : ℕ) → place + rest ≡ size → min rest (len + 1) + behind ≡ rest → size - behind ≡ min size (place + len + 1)
 end_is size place len behind rest e f = omega arith
 

@@ -81,7 +81,7 @@ data Took (n : ℕ) (t : LineBytes) (d : Draft) : Kind → Draft → Type 0 wher
   sync : {r : LineBytes} → t ≡ codes "sync" → d.root ≡ Some r → Took n t d Kind.SyncLine (record d { phases = d.phases ++ d.phase ∷ []; phase = []; begun = true })
   command : {r rest : LineBytes} {lane : ℕ} {c : Command} → d.root ≡ Some r → IsLane t lane rest → lane ≤ 15 → CommandText rest c → Took n t d Kind.LaneLine (record d { phase = d.phase ++ record { line = n; lane = lane; command = c } ∷ []; begun = true })
 
--- a line of an open block
+-- What a line makes of an open block: it closes it, or is put behind its bytes.
 data Inside (t : LineBytes) (d : Draft) (b : Block) : Draft → Type 0 where
   closes : t ≡ codes "%%" → Inside t d b (record d { manifests = d.manifests ++ b ∷ []; block = None })
   inner : (t ≡ codes "%%" → ⊥) → Inside t d b (record d { block = Some (record b { bytes = b.bytes ++ (t ++ codes "\n") }) })

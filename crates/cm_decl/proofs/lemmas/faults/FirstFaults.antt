@@ -103,7 +103,7 @@ same_fault f g a b c d e =
 
 -- ---- the first of several
 
--- the same part in other words
+-- What is the first fault of a part is that of the same part in other words.
 pub in_other_words : (d : Decl) (P Q : DeclFault → Type 0) (o : Option DeclFault) → ((f : DeclFault) → P f → Q f) → ((f : DeclFault) → IsBroken d f → Q f → P f) → IsFirstIn d P o → IsFirstIn d Q o
 in_other_words d P Q None there back first = λ g st q. first g st (back g st q)
 in_other_words d P Q (Some f) there back first =
@@ -215,7 +215,7 @@ row_by d s i (Some r) least = (
 pub first_at_row : (d : Decl) (s : Section) (i : ℕ) → IsFirstIn d (At s i) (fault_at d s i)
 first_at_row d s i = row_by d s i (find (λ r. breaks d r s i) rules) (least_rule (λ r. breaks d r s i))
 
--- one row more
+-- With one row more, the first fault of the rows is that of those before, or else that row's.
 pub first_below_more : (d : Decl) (s : Section) (n : ℕ) (o others : Option DeclFault) → IsFirstIn d (Below s n) o → IsFirstIn d (At s n) others → IsFirstIn d (Below s (n + 1)) (or_else o others)
 first_below_more d s n o others first second =
     in_other_words d (λ f. Below s n f ⊎ At s n f) (Below s (n + 1)) (or_else o others)
@@ -346,7 +346,7 @@ none_behind d f s e st behind = omega arith
 computed_section : (d : Decl) (s : Section) → IsFirstIn d (λ f. f.section ≡ s) (fault_below d s (rows_of d s))
 computed_section d s = first_in_section d s (fault_below d s (rows_of d s)) (first_below d s (rows_of d s))
 
--- so the exposes are the last part
+-- The exposes are the last part: the first fault there is the first from there on.
 pub first_from_exposes : (d : Decl) (o : Option DeclFault) → IsFirstIn d (λ f. f.section ≡ Exposes) o → IsFirstIn d (From 7) o
 first_from_exposes d o first =
     in_other_words d (λ f. f.section ≡ Exposes) (From 7) o
@@ -433,7 +433,7 @@ fault_once d f g (inr one) (inl two) = absurd (one.faultless g two.stands)
 fault_once d f g (inr one) (inr two) =
     one.whole ∙ ap cycle_fault (picks_once (is_strong_edge d []) f.cycle g.cycle one.picked two.picked) ∙ sym two.whole
 
--- and a valid one has none
+-- A valid declaration has no fault.
 pub valid_faultless : (d : Decl) (f : DeclFault) → IsValid d → IsDeclFault d f → ⊥
 valid_faultless d f valid (inl one) = valid.faultless f one.stands
 valid_faultless d f valid (inr one) = valid.acyclic (picked_is_cycle (is_strong_edge d []) f.cycle one.picked)

@@ -21,7 +21,7 @@ edge_nodes d dynamic x y h =
       second_so (by && is_node d dynamic x) (is_node d dynamic y) h,
     )
 
--- so are those of an implied one
+-- Both ends of an edge, be it strong or implied, are nodes.
 pub direct_nodes : (d : Decl) (dynamic : List DynChild) (x y : Node) → Directly (realm d dynamic) x y → IsTrue (is_node d dynamic x) × IsTrue (is_node d dynamic y)
 direct_nodes d dynamic x y (inl strong) = edge_nodes d dynamic x y strong
 direct_nodes d dynamic x y (inr implied) =

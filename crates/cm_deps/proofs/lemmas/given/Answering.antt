@@ -52,7 +52,7 @@ last_is_node d dynamic x y way =
 pub no_node : (d : Decl) (dynamic : List DynChild) (nodes : List Node) (x : Node) → IsNodes (is_node d dynamic) nodes → list_any (same_node x) nodes ≡ false → IsTrue (is_node d dynamic x) → ⊥
 no_node d dynamic nodes x is absent has = true≢false (sym (is.all x ∙ has) ∙ absent)
 
--- by numbers
+-- A node reaches another by the numbers of both exactly where the one depends on the other.
 pub depends_by_number : (d : Decl) (dynamic : List DynChild) (nodes : List Node) (reached : List (List ℕ)) (x y : Node) (from to : ℕ) → IsReachability d dynamic nodes reached → IsNodeNumber nodes x from → IsNodeNumber nodes y to → IsTrue (holds (row reached from) to) ↔ DependsOn d dynamic x y
 depends_by_number d dynamic nodes reached x y from to is first second =
     let both : IsTrue (holds (row reached from) to) ↔ DependsOn d dynamic (at nodes from) (at nodes to) = is from to first.inside second.inside in (
@@ -191,7 +191,8 @@ would_give d dynamic coll gives nodes reached y to sorted is there h =
           onward = leads_onward d dynamic nodes reached y i to is place.0 there leads;
         }
 
--- one of the three holds
+-- What a child to come would depend on is led to by the component itself, by a source of the offers to its
+-- collection, or by one of its strong gives.
 pub would_split : (d : Decl) (dynamic : List DynChild) (coll : List ℕ) (gives : List Give) (nodes : List Node) (reached : List (List ℕ)) (numbers : List ℕ) (y : Node) (to : ℕ) → IsNodes (is_node d dynamic) nodes → IsReachability d dynamic nodes reached → ((j : ℕ) → holds numbers j ≡ is_source nodes (strong_sources (offers_of d.offers coll)) j) → IsNodeNumber nodes y to → WouldDepend d dynamic coll gives y → IsTrue (leads_to reached to 0) ⊎ (IsTrue (list_any (leads_to reached to) numbers) ⊎ IsTrue (list_any (source_leads nodes reached to) (strong_sources gives)))
 would_split d dynamic coll gives nodes reached numbers y to sorted is lists there would = by would.first would.direct would.onward
   where

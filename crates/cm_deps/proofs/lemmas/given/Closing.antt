@@ -5,7 +5,7 @@ use Rattle.std.proofs.Math.Seq.{get_or-append_seam}
 use Rattle.cm_deps.specs.Edges.{row, IsReach}
 use Rattle.cm_deps.specs.Closure.{IsClosure}
 
--- the list of one node more
+-- With the list of one node more at the end, the lists are the closure up to it.
 pub closure_more : (after : List (List ℕ)) (count : ℕ) (all : List (List ℕ)) (new : List ℕ) → IsClosure after count all → IsReach after count new → IsClosure after (count + 1) (all ++ new ∷ [])
 closure_more after count all new state is = record {
   size = omega (arith, length-append all (new ∷ []), state.size);

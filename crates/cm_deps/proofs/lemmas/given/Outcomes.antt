@@ -106,6 +106,6 @@ pub ordered_acyclic : (d : Decl) (dynamic : List DynChild) (order : List Node) �
 ordered_acyclic d dynamic order is (x, way) =
     orders.ordered_acyclic d dynamic order is (x, Reaches-along (StrongOn d dynamic) (Directly (realm d dynamic)) (λ a b on. inl on) x x way)
 
--- one node more of these numbers
+-- The nodes of numbers, one more of them taken, are those before and the node of that number.
 pub nodes_more : (nodes : List Node) (numbers : List ℕ) (i : ℕ) → i < length numbers → map (at nodes) (take (i + 1) numbers) ≡ map (at nodes) (take i numbers) ++ at nodes (get_or numbers i 0) ∷ []
 nodes_more nodes numbers i low = ap (map (at nodes)) (take_more numbers i 0 low) ∙ map-append (at nodes) (take i numbers) (get_or numbers i 0 ∷ [])

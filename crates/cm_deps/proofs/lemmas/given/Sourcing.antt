@@ -34,7 +34,7 @@ use Rattle.cm_deps.proofs.lemmas.numbers.Placing.{at_found}
 
 -- ---- one source
 
--- a source that is a node
+-- A number is that of a source, whose node is told, exactly where it is within the nodes and has this node.
 pub source_node : (nodes : List Node) (source : Origin) (x : Node) → node_of source ≡ Some x → (j : ℕ) → is_source nodes (source ∷ []) j ≡ (nat_lt j (length nodes) && same_node x (at nodes j))
 source_node nodes source x some j =
     ap (λ o. nat_lt j (length nodes) && (option_eq same_node o (Some (at nodes j)) || false)) some ∙ ap (λ v. nat_lt j (length nodes) && v) (or-false (same_node x (at nodes j)))
@@ -50,7 +50,7 @@ source_absent nodes source x some absent j = source_node nodes source x some j �
         absurd (true≢false (sym (at_found x nodes j low (sym same)) ∙ absent))
     by false h = refl
 
--- one that is has one number
+-- Where nodes increase, a number is that of a source exactly where it is the number of its node.
 pub source_number : (nodes : List Node) (source : Origin) (x : Node) (i : ℕ) → IsIncreasing nodes → node_of source ≡ Some x → IsNodeNumber nodes x i → (j : ℕ) → nat_eq j i ≡ is_source nodes (source ∷ []) j
 source_number nodes source x i increasing some is j = both_ways (nat_eq j i) (nat_lt j (length nodes) && same_node x (at nodes j))
     (λ h. subst (λ k. IsTrue (nat_lt k (length nodes) && same_node x (at nodes k))) (sym (same_nat j i h))
@@ -89,7 +89,7 @@ passing_any passes source test (r ∷ rs) = by (passes r) refl (passing_any pass
     by true e later = rw e (ap (λ v. test (source r) || v) later)
     by false e later = rw e later
 
--- one row more
+-- With one row more, the sources of the rows that pass have its source too, where it passes.
 passing_more : {A : Type 0} (passes : A → Bool) (source : A → Origin) (nodes : List Node) (rows : List A) (i : ℕ) (r : A) → i < length rows → r ≡ get_or rows i r → (j : ℕ) → is_source nodes (passing passes source (take (i + 1) rows)) j ≡ (is_source nodes (passing passes source (take i rows)) j || (nat_lt j (length nodes) && (passes r && is_from_node (at nodes j) (source r))))
 passing_more passes source nodes rows i r low here j =
     ap (λ v. nat_lt j (length nodes) && v) (
@@ -127,7 +127,7 @@ more_all passes source nodes rows i first new low so_far = subst (λ l. ListsMor
 
 -- ---- results
 
--- one row more
+-- What holds of each row, and of a new one at the end, holds of each row of the longer list.
 pub rows_more : (P : ℕ → List ℕ → Type 0) (rows : List (List ℕ)) (n : ℕ) (new : List ℕ) → length rows ≡ n → ((i : ℕ) → i < n → P i (row rows i)) → P n new → (i : ℕ) → i < n + 1 → P i (row (rows ++ new ∷ []) i)
 rows_more P rows n new size so_far last i low = elim (cases_lt i n) as (λ _. P i (row (rows ++ new ∷ []) i)) [
   | inl before ↦ subst (P i) (sym (get_or_append_left rows (new ∷ []) [] i (omega (arith, size)))) (so_far i before)
@@ -138,7 +138,7 @@ rows_more P rows n new size so_far last i low = elim (cases_lt i n) as (λ _. P 
 
 -- ---- what a child depends on
 
--- the sources of the offers to a name
+-- The strong sources of the offers to a name are those of all offers that are to it and strong.
 pub offers_passing : (offers : List Offer) (name : List ℕ) → strong_sources (offers_of offers name) ≡ passing (λ o. bytes_eq o.to name && is_strong o.give.dependency) (λ o. o.give.from) offers
 offers_passing [] name = refl
 offers_passing (o ∷ os) name = by (bytes_eq o.to name) refl (is_strong o.give.dependency) refl (offers_passing os name)
@@ -157,7 +157,7 @@ sources_append (g ∷ gs) more = by (is_strong g.dependency) refl (sources_appen
     by true e later = rw e (ap (λ l. g.from ∷ l) later)
     by false e later = rw e later
 
--- by the declaration alone
+-- Numbers that list the sources of the offers to a child are its sources, where no child is dynamic.
 pub child_declared : (nodes : List Node) (d : Decl) (c : ChildName) (numbers : List ℕ) → Lists nodes (strong_sources (offers_of d.offers (target_of c))) numbers → Lists nodes (sources_of d [] (Child c)) numbers
 child_declared nodes d c numbers lists = subst (λ l. Lists nodes (strong_sources l) numbers) (sym (append-nil (offers_to d c))) lists
 
@@ -193,7 +193,7 @@ offered_all nodes offers i name numbers low so_far =
 same_lists : (nodes : List Node) (xs ys : List Origin) (row : List ℕ) → xs ≡ ys → Lists nodes xs row → Lists nodes ys row
 same_lists nodes xs ys row same lists = subst (λ l. Lists nodes l row) same lists
 
--- one child more, of another name
+-- With one dynamic child more, of another name, a node's sources are what they were.
 pub given_other : (d : Decl) (before : List DynChild) (k : DynChild) (x : Node) → (x ≡ Child k.name → ⊥) → sources_of d (before ++ k ∷ []) x ≡ sources_of d before x
 given_other d before k Own apart = refl
 given_other d before k (Child c) apart = by (same_child k.name c) refl
@@ -204,7 +204,7 @@ given_other d before k (Child c) apart = by (same_child k.name c) refl
         let kept : filter (λ h. same_child h.name c) (before ++ k ∷ []) ≡ filter (λ h. same_child h.name c) before = filter-append (λ (h : DynChild). same_child h.name c) before (k ∷ []) ∙ ap (λ b. filter (λ h. same_child h.name c) before ++ (if b then k ∷ [] else [])) e ∙ append-nil (filter (λ h. same_child h.name c) before) in
         ap (λ l. child_sources d c (flat_map (λ h. h.gives) l)) kept
 
--- of the same name
+-- The sources of a dynamic child are those of its name before, and those of its strong gives.
 pub given_same : (d : Decl) (before : List DynChild) (k : DynChild) → sources_of d (before ++ k ∷ []) (Child k.name) ≡ sources_of d before (Child k.name) ++ strong_sources k.gives
 given_same d before k =
     let self : same_child k.name k.name ≡ true = same_node-refl (Child k.name) in

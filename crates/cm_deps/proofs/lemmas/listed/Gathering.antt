@@ -4,7 +4,7 @@ use Rattle.std.proofs.lemmas.Bool.{cases_lt}
 use Rattle.cm_deps.specs.Edges.{holds, row, IsBelow, Covers}
 use Rattle.cm_deps.proofs.lemmas.listed.Listing.{same_nat, nat_eq-refl, or_left, or_right, holds_push, prefix_more}
 
--- an empty list more
+-- With an empty list more at the end, all lists are still empty.
 pub row_push : (rows : List (List ℕ)) → ((x : ℕ) → row rows x ≡ []) → (x : ℕ) → row (rows ++ [] ∷ []) x ≡ []
 row_push [] empty zero = refl
 row_push [] empty (suc x) = refl
@@ -55,7 +55,7 @@ put_holds rows node x within y z false other =
     let apart : y ≢ node = λ e. true≢false (sym (subst (λ w. IsTrue (nat_eq y w)) e (nat_eq-refl y)) ∙ other) in
     inr (ap (λ l. holds l z) (get_or-set_other rows node y (row rows node ++ x ∷ []) [] apart), apart)
 
--- into one list more
+-- With a number put into one list more, it is in all lists up to that node, and nothing else was put.
 pub adding_more : (x : ℕ) (nodes : List ℕ) (k : ℕ) (old new : List (List ℕ)) → k < length nodes → IsAdding x (take k nodes) old new → get_or nodes k 0 < length new → IsAdding x (take (k + 1) nodes) old (set new (get_or nodes k 0) (row new (get_or nodes k 0) ++ x ∷ []))
 adding_more x nodes k old new low state within = record {
   size = length-set new (get_or nodes k 0) (row new (get_or nodes k 0) ++ x ∷ []) ∙ state.size;
@@ -98,7 +98,7 @@ gathering_none after before size empty = record {
   covers = λ x y low held. absurd (omega arith);
 }
 
--- the next node
+-- With the dependents of one node more put in, what is gathered is right up to the next node.
 pub gathering_more : (after before later : List (List ℕ)) (k : ℕ) → k < length after → IsGathering after before k → IsAdding k (row after k) before later → IsGathering after later (k + 1)
 gathering_more after before later k low state added = record {
   size = added.size ∙ state.size;

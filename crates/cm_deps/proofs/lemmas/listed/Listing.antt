@@ -53,7 +53,7 @@ each_passes p (x ∷ xs) h y here = by (p x) refl (nat_eq y x) refl (each_passes
         let rest : list_all p xs ≡ true = rw passes at h in
         let there : IsTrue (holds xs y) = rw other at here in later rest y there
 
--- one node more
+-- With one node more that comes next, the order is still one by dependents.
 pub grown_push : (after : List (List ℕ)) (order : List ℕ) (y : ℕ) → IsReverseTopological after order → IsNext after order y → IsReverseTopological after (order ++ y ∷ [])
 grown_push after order y grown next k x at = elim (snoc_at order y k x at) as (λ _. IsNext after (take k (order ++ y ∷ [])) x) [
   | inl old ↦ (let within : k < length order = slice_get_within order k x old in

@@ -19,7 +19,7 @@ pub record IsToposorting (after : List (List ℕ)) (order : List ℕ) (queued do
 pub listed_inside : (after : List (List ℕ)) (order : List ℕ) (head : ℕ) → IsReverseTopological after order → head < length order → get_or order head 0 < length after
 listed_inside after order head grown within = (grown head (get_or order head 0) (slice_get-get_or order head 0 within)).inside
 
--- the next node is done
+-- With the node at the head put down as done, what is listed is right.
 pub listing_done : (after : List (List ℕ)) (order : List ℕ) (queued done : List Bool) (head : ℕ) → IsToposorting after order queued done head → head < length order → IsListing after order queued (set done (get_or order head 0) true)
 listing_done after order queued done head state within = record {
   queued_size = state.listing.queued_size;
@@ -96,7 +96,7 @@ listing_none after n size = record {
   counted = omega (arith, all_open n);
 }
 
--- and where each node is settled, none is done
+-- At first, with nothing done, a sort is under way where each node is settled.
 pub toposorting_none : (after : List (List ℕ)) (order : List ℕ) (queued : List Bool) (n : ℕ) → n ≡ length after → IsListing after order queued (replicate n false) → ((x : ℕ) → x < n → IsSettled after order (replicate n false) x) → IsToposorting after order queued (replicate n false) 0
 toposorting_none after order queued n size listing settled = record {
   listing = listing;
@@ -106,13 +106,13 @@ toposorting_none after order queued n size listing settled = record {
   settled = λ x in_x. settled x (omega arith);
 }
 
--- the same, where the next node has a name
+-- With the next node done, by its name, and its dependents looked at, a sort is still under way.
 pub toposorting_next : (after before : List (List ℕ)) (order longer : List ℕ) (queued later done : List Bool) (head node : ℕ) → IsToposorting after order queued done head → Covers before after → head < length order → get_or order head 0 ≡ node → IsListing after longer later (set done node true) → ((y : ℕ) → IsTrue (holds (row before node) y) → IsSettled after longer (set done node true) y) → Extends order longer → IsToposorting after longer later (set done node true) (head + 1)
 toposorting_next after before order longer queued later done head node state covers within same =
     subst (λ z. IsListing after longer later (set done z true) → ((y : ℕ) → IsTrue (holds (row before z) y) → IsSettled after longer (set done z true) y) → Extends order longer → IsToposorting after longer later (set done z true) (head + 1)) same
     (toposorting_more after before order longer queued later done head state covers within)
 
--- one node more is settled
+-- With one node more that is settled, all up to it are settled in the longer order.
 pub settled_more : (after : List (List ℕ)) (order longer : List ℕ) (done : List Bool) (k : ℕ) → ((y : ℕ) → y < k → IsSettled after order done y) → Extends order longer → IsSettled after longer done k → (y : ℕ) → y < k + 1 → IsSettled after longer done y
 settled_more after order longer done k settled more here y low = elim (cases_lt y k) as (λ _. IsSettled after longer done y) [
   | inl before ↦ settled_longer after order longer done y more (settled y before)

@@ -8,7 +8,7 @@ use Rattle.cm_deps.proofs.lemmas.listed.Listing.{same_nat}
 abbrev pub IsSupported : List (List ℕ) → (ℕ → Bool) → Type 0
 IsSupported after member = (x : ℕ) → IsTrue (member x) → (y : ℕ) × IsTrue (member y) × On after x y
 
--- where a list holds a node
+-- A node that a list holds stands at some place of it.
 pub held_at : (xs : List ℕ) (x : ℕ) → IsTrue (holds xs x) → (k : ℕ) × (k < length xs) × (slice_get xs k ≡ Some x)
 held_at [] x held = absurd (true≢false (sym held))
 held_at (y ∷ ys) x held = by (nat_eq x y) refl (held_at ys x)
@@ -39,7 +39,7 @@ stands_before after order grown k x y at on =
     let held : (l : ℕ) × (l < length (take k order)) × (slice_get (take k order) l ≡ Some y) = held_at (take k order) y ((grown k x at).ready y on) in
     (held.0, prefix_short order k held.0 y held.2, prefix_at order k held.0 y held.2)
 
--- so no listed node is in a set that supports itself
+-- In an order by dependents no listed node is in a set whose nodes each lead to one of it.
 none_below : (after : List (List ℕ)) (order : List ℕ) → IsReverseTopological after order → (member : ℕ → Bool) → IsSupported after member → (n k x : ℕ) → k < n → slice_get order k ≡ Some x → IsTrue (member x) → ⊥
 none_below after order grown member supported zero k x low at is = omega arith
 none_below after order grown member supported (suc n) k x low at is =

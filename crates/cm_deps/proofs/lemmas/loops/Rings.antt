@@ -23,7 +23,7 @@ trail_loop Onward start (f ∷ fs) node back trail =
     let both : DependencyPath Onward start fs node × DependencyPath Onward node back node = DependencyPath-split Onward start fs node back node trail.1 in
     (inr (fs, both.0), both.1)
 
--- one node more, that wasn't there
+-- A list that holds each node once still does with one more that wasn't in it.
 pub once_more : (xs : List ℕ) (y : ℕ) → Once xs → holds xs y ≡ false → Once (xs ++ y ∷ [])
 once_more [] y once out = (refl, tt)
 once_more (x ∷ xs) y once out =

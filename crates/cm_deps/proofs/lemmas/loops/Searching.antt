@@ -88,7 +88,7 @@ added_none found = record {
   longer = ([], sym (append-nil found));
 }
 
--- one node more was put there
+-- With one node more put behind the found ones, so many of the nodes are added.
 pub added_more : (nodes : List ℕ) (k : ℕ) (old found longer : List ℕ) → k < length nodes → IsAdded (take k nodes) old found → IsTrue (holds longer (get_or nodes k 0)) → ((y : ℕ) → IsTrue (holds longer y) → holds found y ≡ false → y ≡ get_or nodes k 0) → Extends found longer → IsAdded (take (k + 1) nodes) old longer
 added_more nodes k old found longer low state here new more = record {
   added = prefix_more (λ y. IsTrue (holds longer y)) nodes k low (λ y held. holds_longer found longer y more (state.added y held)) here;

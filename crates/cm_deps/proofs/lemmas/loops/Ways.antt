@@ -13,7 +13,7 @@ DependencyPath-split On x [] y ys z way = way
 DependencyPath-split On x (v ∷ vs) y ys z way =
     let rest : DependencyPath On v vs y × DependencyPath On y ys z = DependencyPath-split On v vs y ys z way.1 in ((way.0, rest.0), rest.1)
 
--- one step more
+-- A way with one step more at its end is a way.
 pub DependencyPath-snoc : {N : Type 0} (On : N → N → Type 0) (x : N) (xs : List N) (y z : N) → DependencyPath On x xs y → On y z → DependencyPath On x (xs ++ y ∷ []) z
 DependencyPath-snoc On x xs y z way on = DependencyPath-join On x xs y [] z way on
 
@@ -26,7 +26,7 @@ DependencyPath-along On Along same x (z ∷ zs) y way = (same x z way.0, Depende
 pub Reaches-along : {N : Type 0} (On Along : N → N → Type 0) → ((x y : N) → On x y → Along x y) → (x y : N) → Reaches On x y → Reaches Along x y
 Reaches-along On Along same x y way = (way.0, DependencyPath-along On Along same x way.0 y way.1)
 
--- the last step of a way
+-- A way has a last step, which leads to its end.
 pub last_step : {N : Type 0} (On : N → N → Type 0) (x : N) (xs : List N) (y : N) → DependencyPath On x xs y → (z : N) × On z y
 last_step On x [] y on = (x, on)
 last_step On x (z ∷ zs) y way = last_step On z zs y way.1

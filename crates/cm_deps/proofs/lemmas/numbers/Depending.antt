@@ -28,7 +28,7 @@ way_number nodes After Along step i low (z ∷ zs) y way =
     let rest : (j : ℕ) × (j < length nodes) × (at nodes j ≡ y) × Reaches After next.0 j = way_number nodes After Along step next.0 next.1 zs y (subst (λ v. DependencyPath Along v zs y) (sym next.2) way.1) in
     (rest.0, rest.1, rest.2, (next.0 ∷ rest.3.0, (next.3, rest.3.1)))
 
--- the strong edges
+-- What a node depends on strongly is a node, and the numbered graph has that edge.
 pub strong_step : (nodes : List Node) (after : List (List ℕ)) (r : RealmGraph Node) → IsRealmOf nodes after r → (i : ℕ) → i < length nodes → (y : Node) → Strong r (at nodes i) y → (j : ℕ) × (j < length nodes) × (at nodes j ≡ y) × On after i j
 strong_step nodes after r is i low y on = edge_at nodes r.edge after is.numbered i low y on
 
@@ -68,7 +68,7 @@ listed_acyclic nodes after r listed is grown all (x, (between, way)) =
     let place : (k : ℕ) × (k < length listed) × (slice_get listed k ≡ Some first.0) = held_at listed first.0 (all first.0 (omega (arith, is.numbered.size, first.1))) in
     descend after listed grown first.0 back.0 back.1 (suc place.0) place.0 (omega arith) place.2
 
--- with the implied edges
+-- Where all nodes are listed, the full lists have the direct edges of the realm, the implied ones among them.
 pub direct_full : (nodes : List Node) (after : List (List ℕ)) (r : RealmGraph Node) (listed reached : List ℕ) (full : List (List ℕ)) → IsRealmOf nodes after r → IsReverseTopological after listed → ((x : ℕ) → x < length after → IsTrue (holds listed x)) → IsReach after 0 reached → IsFull after reached full → IsDirect nodes full r
 direct_full nodes after r listed reached full is grown all reach edges = record {
   inside = λ i j on. inside i j on;

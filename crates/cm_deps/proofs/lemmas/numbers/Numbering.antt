@@ -152,7 +152,7 @@ core_left nodes edge after order numbered toposorted x core =
     by i is true listed = absurd (listed_unsupported after order toposorted.grown (member core.0 nodes) supported i listed is)
     by i is false left = left
 
--- the same of a number
+-- A number whose node is in the core isn't listed.
 pub core_number : (nodes : List Node) (edge : Node → Node → Bool) (after : List (List ℕ)) (order : List ℕ) → IsNumbered nodes edge after → IsToposorted after order → (i : ℕ) → i < length nodes → InCore edge (at nodes i) → holds order i ≡ false
 core_number nodes edge after order numbered toposorted i low core =
     let found : (k : ℕ) × (k < length nodes) × (at nodes k ≡ at nodes i) × (holds order k ≡ false) = core_left nodes edge after order numbered toposorted (at nodes i) core in

@@ -56,7 +56,7 @@ true_or true false = refl
 true_or false true = refl
 true_or false false = refl
 
--- one more row whose node is put into a set
+-- With one more row whose node is put into a set, the set has the nodes of the rows so far.
 pub placed_more : {A : Type 0} (node : A → Node) (rows : List A) (i : ℕ) (row : A) (key : Node) (before old new : Node → Bool) → i < length rows → row ≡ get_or rows i row → key ≡ node row → ((x : Node) → old x ≡ (before x || list_any (λ r. same_node (node r) x) (take i rows))) → ((x : Node) → new x ≡ cond (is_at (node_cmp key) x) true (old x)) → (x : Node) → new x ≡ (before x || list_any (λ r. same_node (node r) x) (take (i + 1) rows))
 placed_more node rows i row key before old new low here is so_far step = λ x.
     step x ∙ ap (λ v. cond v true (old x)) (same_by_cmp key x) ∙ true_or (same_node key x) (old x) ∙ ap (λ k. old x || same_node k x) is ∙
@@ -67,7 +67,7 @@ placed_more node rows i row key before old new low here is so_far step = λ x.
 pub placed_none : {A : Type 0} (node : A → Node) (rows : List A) (before : Node → Bool) → (x : Node) → before x ≡ (before x || list_any (λ r. same_node (node r) x) (take 0 rows))
 placed_none node rows before x = sym (or-false (before x))
 
--- all rows
+-- What is before the rows or one of them is so by the nodes of the rows.
 pub placed_all : {A : Type 0} (node : A → Node) (rows : List A) (before new : Node → Bool) → ((x : Node) → new x ≡ (before x || list_any (λ r. same_node (node r) x) rows)) → (x : Node) → new x ≡ (before x || list_any (λ y. same_node y x) (map node rows))
 placed_all node rows before new all x = all x ∙ ap (λ v. before x || v) (sym (list_any_map (λ y. same_node y x) node rows))
 

@@ -25,7 +25,7 @@ own_least : (x : Node) → node_cmp x Own ≡ Less → ⊥
 own_least Own less = let never : ⊥ = cc in never
 own_least (Child c) less = let never : ⊥ = cc in never
 
--- the numbered graph of a realm
+-- Numbered nodes and rows of a declaration are the numbered graph of its realm.
 pub realm_of : (d : Decl) (dynamic : List DynChild) (nodes : List Node) (rows : List (List ℕ)) → IsNodes (is_node d dynamic) nodes → IsEdges d dynamic nodes rows → IsRealmOf nodes rows (realm d dynamic)
 realm_of d dynamic nodes rows is edges = record {
   some = omega (arith, own.1);

@@ -67,7 +67,7 @@ first_bad d there coll gives i g number none low is e =
     ap (λ n. slice_get (filter_map (bad_give_at d there coll gives) (range_with_len 0 n)) 0) rest
     ∙ first_given (bad_give_at d there coll gives) i (length gives - i - 1) (i, number) none (judged d there coll gives i g (Some number) low is e)
 
--- one offer more that isn't bad
+-- With one offer more that isn't bad, none of those so far is.
 pub none_more : (d : Decl) (there : ChildName → Bool) (coll : List ℕ) (gives : List Give) (i : ℕ) (g : Give) → NoneBad d there coll gives i → i < length gives → g ≡ get_or gives i g → None ≡ option_map number_of (give_fault d there coll (take i gives) g) → NoneBad d there coll gives (i + 1)
 none_more d there coll gives i g none low is e =
     none_given (bad_give_at d there coll gives) i none (judged d there coll gives i g None low is e)

@@ -97,7 +97,7 @@ behind_all after a (r ∷ rs) h all = (behind_more after a r.inc h (ltb-true a r
 
 -- ---- the first row that follows
 
--- what is known of it
+-- A row that is the first to pass: it lives, and the rows that pass are its own and those behind it.
 record IsFirst (rows : List Row) (p : ℕ) (after : Option ℕ) (s : Row) : Type 0 where
   lives : row_of rows s.inc ≡ Some s
   split : filter_map (taken p after) rows ≡ cons_option (sibling_of s) (filter_map (taken p (Some s.inc)) rows)
@@ -179,7 +179,7 @@ none_behind rows p after e = none_left rows p after e
 
 -- ---- the loop over the children
 
--- one child more
+-- With the next child's sibling at the end, what was seen and what is left make the same list.
 pub one_more : (rows : List Row) (next p i : ℕ) (after : Option ℕ) (seen more all : List DynChild) (found : Option DynChild) → IncarnationsIncrease next rows → child_behind rows p after ≡ Some i → found ≡ option_and_then sibling_of (row_of rows i) → more ≡ seen ++ option_to_list found → seen ++ siblings_behind rows p after ≡ all → more ++ siblings_behind rows p (Some i) ≡ all
 one_more rows next p i after seen more all found increasing e is pushed so_far =
     ap (λ xs. xs ++ siblings_behind rows p (Some i)) (pushed ∙ ap (λ o. seen ++ option_to_list o) is)
@@ -187,7 +187,7 @@ one_more rows next p i after seen more all found increasing e is pushed so_far =
     ∙ sym (ap (λ xs. seen ++ xs) (next_behind rows next p i after increasing e))
     ∙ so_far
 
--- behind the last one these are all
+-- Behind the last child, those that were seen are all.
 pub all_seen : (rows : List Row) (p : ℕ) (after : Option ℕ) (seen all : List DynChild) → child_behind rows p after ≡ None → seen ++ siblings_behind rows p after ≡ all → seen ≡ all
 all_seen rows p after seen all e so_far = sym (ap (λ xs. seen ++ xs) (none_behind rows p after e) ∙ append-nil seen) ∙ so_far
 

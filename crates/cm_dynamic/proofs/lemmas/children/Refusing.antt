@@ -19,7 +19,7 @@ pub unnamed : (rows : List Row) (p : ℕ) (d : Decl) (coll : Collection) (c : Ch
 unnamed rows p d coll c gives e =
     sym (ap (λ o. elim o as (λ _. Option Reply) [ Some i ↦ Some (Exists i) | None ↦ refused_gives rows p d coll gives ]) e)
 
--- the collection is there
+-- Where the collection is declared, what refuses by its name is what refuses by the collection.
 pub collected : (rows : List Row) (p : ℕ) (d : Decl) (k : Collection) (coll name : List ℕ) (gives : List Give) → collection_of d coll ≡ Some k → refused_name rows p d k (dynamic_name coll name) gives ≡ refused_by rows p d coll name gives
 collected rows p d k coll name gives e =
     sym (ap (λ o. elim o as (λ _. Option Reply) [ None ↦ Some NoCollection | Some x ↦ refused_name rows p d x (dynamic_name coll name) gives ]) e)
@@ -44,7 +44,7 @@ resolved rows p d coll name gives here kept e =
 
 -- ---- an answer
 
--- that of a refusal
+-- An answer that is what refuses a create is the answer to the create.
 pub is_refused : (rows : List Row) (free p : ℕ) (coll name : List ℕ) (gives : List Give) (answer : MayCreate) → RefusesChange (Some answer) (refused_create rows p coll name gives) → AnswersCreate rows free p coll name gives answer
 is_refused rows free p coll name gives answer refuses = λ limit next tells.
     subst (λ o. CreatesUnless limit rows next p (dynamic_name coll name) gives o (create_reply next answer)) (refuses next) refl
@@ -62,7 +62,7 @@ is_resolved rows p coll name gives refuses none =
     needs_by (is_gone rows p) (is_closed rows p) p
     (refuses 0 ∙ ap (λ o. cond (is_gone rows p) (Some (Gone p)) (cond (is_closed rows p) (Some (Closing p)) (create_by rows p coll name gives o))) none)
 
--- that of the realm graph and the room
+-- Where nothing refuses a create, its answer is that of the realm graph and of the room.
 pub is_by_graph : (rows : List Row) (free p : ℕ) (coll name : List ℕ) (gives : List Give) (d : Decl) (c : ChildName) (made children : List DynChild) (answer : MayCreate) → RefusesChange None (refused_create rows p coll name gives) → decl_of rows p ≡ Some d → c ≡ dynamic_name coll name → made ≡ dynamic_with rows p c gives → children ≡ made → AnswersGraph d children free answer → AnswersCreate rows free p coll name gives answer
 is_by_graph rows free p coll name gives d c made children answer refuses found named are same by_graph = λ limit next tells.
     subst (λ o. CreatesUnless limit rows next p (dynamic_name coll name) gives o (create_reply next answer)) (refuses next)

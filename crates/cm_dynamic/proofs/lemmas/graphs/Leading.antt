@@ -47,7 +47,7 @@ edge_before d old k x y first second edge =
     (and_pair (list_any (is_from_node y) (sources_of d old x)) (is_node d old x) from (new_node d old k x first ends.0))
     (new_node d old k y second ends.1)
 
--- so was a way that doesn't pass the new one
+-- A way that doesn't pass the new child was one before it.
 way_before : (d : Decl) (old : List DynChild) (k : DynChild) (x : Node) (zs : List Node) (y : Node) → (x ≡ Child k.name → ⊥) → (y ≡ Child k.name → ⊥) → (Reaches (StrongOn d (old ++ k ∷ [])) x (Child k.name) → Reaches (StrongOn d (old ++ k ∷ [])) (Child k.name) y → ⊥) → DependencyPath (StrongOn d (old ++ k ∷ [])) x zs y → DependencyPath (StrongOn d old) x zs y
 way_before d old k x [] y first last past way = edge_before d old k x y first last way
 way_before d old k x (z ∷ zs) y first last past way =

@@ -27,7 +27,7 @@ use Rattle.cm_trees.proofs.names.Naming.{some_name, name_some}
 abbrev pub has_one : (DynChild → Bool) → ChildName → List DynChild → Bool
 has_one q c ks = list_any (λ k. same_child k.name c && q k) ks
 
--- one that has a node is one
+-- Whether a node is that of a dynamic child is whether one has its name.
 pub node_named : (c : ChildName) (ks : List DynChild) → list_any (λ n. same_node n (Child c)) (map dynamic_node ks) ≡ has_one (λ k. true) c ks
 node_named c [] = refl
 node_named c (k ∷ ks) = by (same_child k.name c) (node_named c ks) where

@@ -47,7 +47,7 @@ kept : (b x : Bool) → IsTrue x → IsTrue (cond b true x)
 kept true x h = refl
 kept false x h = h
 
--- one is put into a set
+-- A set into which an incarnation was put has all that it had.
 pub keeps_all : (inc : ℕ) (set more : BTreeSet ℕ) → ((q : ℕ) → is_in_set more q ≡ cond (is_eq (nat_cmp inc q)) true (is_in_set set q)) → (i : ℕ) → IsTrue (is_in_set set i) → IsTrue (is_in_set more i)
 keeps_all inc set more updates i there = updates i ∙ kept (is_eq (nat_cmp inc i)) (is_in_set set i) there
 
@@ -165,7 +165,7 @@ no_key (k ∷ ks) q none any = none (omega arith)
 in_none : (set : BTreeSet ℕ) → set.keys ≡ [] → (i : ℕ) → IsTrue (is_in_set set i) → ⊥
 in_none set empty i there = no_key set.keys _ (λ some. (let zero : length set.keys ≡ 0 = ap length empty in absurd (omega arith))) there
 
--- from empty sets
+-- From empty sets a walk along the gives of the new child knows all that these lead to.
 pub walking_first : (rows : List Row) (p : ℕ) (new : ChildName) (gives : List Give) (none empty seen ahead : BTreeSet ℕ) → none.keys ≡ [] → Grows none empty seen ahead → IsTrue (list_all (leads_past rows p new seen) gives) → IsWalking rows p new gives seen ahead
 walking_first rows p new gives none empty seen ahead nothing grows all = record {
   own = all;
@@ -175,7 +175,7 @@ walking_first rows p new gives none empty seen ahead nothing grows all = record 
   ];
 }
 
--- one that lay ahead is looked at
+-- With one that lay ahead looked at, the walk knows what that one leads to.
 pub walking_more : (rows : List Row) (p inc : ℕ) (new : ChildName) (gives : List Give) (seen ahead rest more further : BTreeSet ℕ) → IsWalking rows p new gives seen ahead → ((q : ℕ) → is_in_set rest q ≡ cond (is_eq (nat_cmp inc q)) false (is_in_set ahead q)) → RowLeadsPast rows p new more inc → Grows seen rest more further → IsWalking rows p new gives more further
 walking_more rows p inc new gives seen ahead rest more further so_far taken past grows = record {
   own = all_still rows p new seen rest more further grows gives so_far.own;

@@ -27,7 +27,7 @@ use Rattle.cm_lanes.specs.Lanes.{RanLanes, RanOrNot}
 use Rattle.cm_lanes.specs.Phases.{told_to, AreLanes, lane_frames, frame_in_lane, LanesRan}
 use Rattle.cm_manager.proofs.lemmas.calling.Sixteen.{sixteen_long}
 
--- phases over other frames
+-- A phase over frames is one over other frames, where both agree for sixteen lanes.
 phase_same : (f g : ℕ → Frame) (a : List AnsweredLine) (h₀ h₁ : List Entry) → ((c : ℕ) → c < 16 → f c ≡ g c) → IsPhase f a h₀ h₁ → IsPhase g a h₀ h₁
 phase_same f g a h₀ h₁ same is = record { grows = is.grows; lanes = λ c lt. subst (λ (x : Frame). PerformsLines x c (answers_of c a) h₀ h₁) (same c lt) (is.lanes c lt) }
 

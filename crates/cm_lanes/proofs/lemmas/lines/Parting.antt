@@ -159,7 +159,7 @@ pub answers_behind : (P : AnsweredLine → Type 0) (b : Bool) (c : ℕ) (a : Ans
 answers_behind P true c a xs is h = All-tail P a (answers_of c xs) (subst (All P) (ap (λ (b : Bool). cond b (a ∷ answers_of c xs) (answers_of c xs)) is) h)
 answers_behind P false c a xs is h = subst (All P) (ap (λ (b : Bool). cond b (a ∷ answers_of c xs) (answers_of c xs)) is) h
 
--- phases go on too
+-- Phases, one after another, extend the history that they began at.
 pub phases_grow : (f : Frame) {answered : List (List AnsweredLine)} {a b : List Entry} → ArePhases (λ c. f) answered a b → StartsWith b a
 phases_grow f none_left = starts-refl _
 phases_grow f (one_first phase rest) = starts-trans _ _ _ (phases_grow f rest) phase.grows

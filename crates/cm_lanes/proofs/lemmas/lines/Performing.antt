@@ -66,7 +66,7 @@ performing_more manifests lines l p q r g h k said₀ said₁ said₂ before now
       said = subst (λ (m : List Said). GrewUnless now said₀ said₂ m) (sym (map-append said_of is.answers (x ∷ []))) (said_then before now said₀ said₁ said₂ (map said_of is.answers) (said_of x) is.said puts);
     }
 
--- the same of a caller, which is still the one that began
+-- With one line of its own more performed, a caller has performed these, and is still the one that began.
 pub performing_next : (lines : List Line) (l : Line) (s t u : CallerView) (said₀ said₁ said₂ : List Said) (before now : Bool) (a : Result Answer Refusal) → IsSameCaller s t → Performing s.manager.manifests lines s.pass t.pass s.gates t.gates said₀ said₁ before → (l.lane == s.pass.caller) ≡ true → CallerPerforms l.command t u a → PutsUnless before now said₁ said₂ (said_of (record { line = l; result = a })) → Performing s.manager.manifests (lines ++ l ∷ []) s.pass u.pass s.gates u.gates said₀ said₂ now
 performing_next lines l s t u said₀ said₁ said₂ before now a same is own way puts =
     performing_more s.manager.manifests lines l s.pass t.pass u.pass s.gates t.gates u.gates said₀ said₁ said₂ before now a is own

@@ -72,7 +72,7 @@ takes_one answered behind n l queues new old all lane next moves takes d =
 tail_same : {A : Type 0} (x y : A) (xs ys : List A) → x ∷ xs ≡ y ∷ ys → (x ≡ y) × (xs ≡ ys)
 tail_same x y xs ys e = (cc e, cc e)
 
--- one answer more is moved
+-- With one answer more moved out of its lane's queue, what is left in the queues is still right.
 pub moves_more : (answered : List AnsweredLine) (behind : ℕ → List Said) (n : ℕ) (l : Line) (queues new : List Queue) (old all all' : List Said) (s : Said) → length queues ≡ 16 → l.lane < 16 → Next answered n l → Moves n answered behind queues old all → TakesFirst l.lane queues new (Some s) → all' ≡ all ++ s ∷ [] → Moves (n + 1) answered behind new old all'
 moves_more answered behind n l queues new old all all' s count lane next moves takes push = record {
   moved = push ∙ ap (λ (l : List Said). l ++ s ∷ []) moves.moved ∙ append_assoc old (map said_of (take n answered)) (s ∷ [])

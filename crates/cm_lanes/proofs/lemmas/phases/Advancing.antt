@@ -24,7 +24,7 @@ use Rattle.cm_lanes.specs.Phases.{told_to, IsLaneOf, AreLanes, frame_in_lane, la
 use Rattle.cm_manager.proofs.lemmas.calling.Keeping.{keeps_learns, keeps_trans}
 use Rattle.cm_lanes.proofs.lemmas.merged.Weaving.{LaneParts, Merged, merge}
 
--- one phase behind others
+-- A phase behind other phases makes phases with them.
 pub phases_more : (frames : ℕ → Frame) (answered : List (List AnsweredLine)) (a : List AnsweredLine) (h₀ h₁ h₂ : List Entry) → ArePhases frames answered h₀ h₁ → IsPhase frames a h₁ h₂ → ArePhases frames (answered ++ a ∷ []) h₀ h₂
 phases_more frames [] a h₀ h₁ h₂ none_left last = ArePhases.one_first last ArePhases.none_left
 phases_more frames (x ∷ xs) a h₀ h₁ h₂ (one_first {h₁ = h} first rest) last = ArePhases.one_first first (phases_more frames xs a h h₁ h₂ rest last)

@@ -80,7 +80,7 @@ among_more n seen s own xs (inl e) (inl it) = inl (it ∙ sym e)
 among_more n seen s own xs (inl e) (inr it) = inr (it.0, omega (arith, it.1), λ d. subst (λ (l : List Entry). HasSeen l (get_or xs it.0 d)) (sym e) (it.2 d))
 among_more n seen s own xs (inr here) it = inr (n, omega arith, here)
 
--- one more is met
+-- With one lane more that the first one met, all up to it have met it.
 pub meets_more : {G : Type 0} (n : ℕ) (f f' f'' : Lane G) (xs ys : List (Lane G)) (x x' : Lane G) → n < length ys → length ys ≡ length xs → x ≡ get_or ys n x → MeetsEach n f f' xs ys → MetBoth f' x f'' x' → MeetsEach (n + 1) f f'' xs (set ys n x')
 meets_more {G} n f f' f'' xs ys x x' lt long is_x is both =
     let s = both.seen in
@@ -143,11 +143,11 @@ met_trans s t x y z a b =
       lost = b.lost ∙ a.lost;
     }
 
--- the first lane behind a round
+-- The first lane, which met each of the others, is met itself in a round that isn't empty.
 pub first_met : {G : Type 0} (n : ℕ) (f f' : Lane G) (xs ys : List (Lane G)) → 0 < n → (is : MeetsEach n f f' xs ys) → Met is.seen f f'
 first_met n f f' xs ys lt is = record { pass = is.pass; was = is.was; now = is.now; grows = is.grows; own = is.own lt; gates = is.gates; said = is.said; lost = is.lost }
 
--- and what it needs for the next one
+-- A lane that was met has a pass of the lock, as it had.
 pub has_still : {G : Type 0} (turn : LockView) (s : List Entry) (x y : Lane G) → HasPass turn x → Met s x y → HasPass turn y
 has_still turn s x y has is = record {
   pass = seen_up_to s is.pass;
@@ -192,7 +192,7 @@ meets_twice {G} n f f' f'' xs ys zs some is_n long long₂ a b =
 pub has_at : {G : Type 0} (turn : LockView) (f f' : Lane G) (xs ys : List (Lane G)) (n : ℕ) (d : Lane G) → All (HasPass turn) xs → MeetsEach n f f' xs ys → n < length xs → HasPass turn (get_or ys n d)
 has_at turn f f' xs ys n d all is lt = subst (HasPass turn) (sym (is.rest n d (omega arith))) (all n d lt)
 
--- and at the end all are met
+-- Where a round is at its end, all lanes are met.
 pub meets_end : {G : Type 0} (n : ℕ) (f f' : Lane G) (xs ys : List (Lane G)) → length xs ≤ n → n ≤ length xs → MeetsEach n f f' xs ys → MeetsEach (length xs) f f' xs ys
 meets_end n f f' xs ys above below is = subst (λ (m : ℕ). MeetsEach m f f' xs ys) (omega arith) is
 

@@ -25,7 +25,7 @@ use Rattle.cm_laws.proofs.lemmas.actions.Others.{may_end_stays, join_stays}
 
 -- ---- one step
 
--- the tree behind it
+-- The tree that a realm has behind an entry is the one behind that entry.
 pub told_world : (old new : Story) (caller : ℕ) (event : Event) (r : Reply) → AddsEntry old new caller event r → world_of new ≡ after (world_of old) (entry_of caller event r)
 unfolding world_of
 told_world old new caller event r tells =
@@ -96,7 +96,7 @@ others_leave_joins w (e ∷ es) caller a none mine =
     let both : (e.caller ≡ caller → ⊥) × AreOthers caller es = first_other caller e es none in
     others_leave_joins (after w e) es caller a both.1 (join_stays caller a w e both.0 mine)
 
--- one step of another
+-- Who may end an action still may after another caller's entry.
 pub still_may_end : (old new : Story) (other caller a : ℕ) (event : Event) (r : Reply) (finish : Finish) → AddsEntry old new other event r → (other ≡ caller → ⊥) → MayEnd (world_of old).acts caller a finish → MayEnd (world_of new).acts caller a finish
 still_may_end old new other caller a event r finish tells differ may =
     subst (λ (v : World). MayEnd v.acts caller a finish) (sym (told_world old new other event r tells))

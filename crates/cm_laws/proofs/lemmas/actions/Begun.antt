@@ -117,7 +117,7 @@ unfolding after
 may_end_begun w caller i kind work finish counted begins fits valid =
     may_end_new w caller i work.action kind finish counted (begun_action w.rows w.next_action i kind work begins) fits valid
 
--- and behind a pick that began a stop
+-- Who picks, and so begins a stop, may end it with what fits a stop.
 pub may_end_picked : (w : World) (caller target : ℕ) (work : Work) (finish : Finish) → IsCounted w → PicksOn w.rows w.next_action target work → IsTrue (fits_kind Stop finish) → HasValid finish → MayEnd (after w (entry_of caller (Pick target) (Stopping work))).acts caller work.action finish
 unfolding after
 may_end_picked w caller target work finish counted picks fits valid =

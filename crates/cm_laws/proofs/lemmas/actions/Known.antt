@@ -34,7 +34,7 @@ IsKnown acts a = (x : Act) × (act_of acts a ≡ Some x)
 pub record IsKnownAt (acts : List Act) (r : Row) : Type 0 where
   pub known : (kind : ActKind) (a : ℕ) → r.pending ≡ Some (kind, a) → IsKnown acts a
 
--- and so at each of these rows
+-- What is pending at each of these rows was begun.
 pub AreKnown : List Act → List Row → Type 0
 AreKnown acts [] = Unit {0}
 AreKnown acts (r ∷ rs) = IsKnownAt acts r × AreKnown acts rs

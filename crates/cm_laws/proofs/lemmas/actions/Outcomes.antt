@@ -55,7 +55,7 @@ opening_joined : (r : Reply) → IsPlainOrOpened r → joined_by r ≡ None
 opening_joined r (inl plain) = plain_joined r plain
 opening_joined r (inr opened) = ap joined_by opened.1
 
--- what changes nothing begins nothing
+-- An event that changes nothing begins no action.
 quiet_begun : (w : World) (caller : ℕ) (e : Event) (r : Reply) → moves e r ≡ false → Allowed w caller e r → begun_by r ≡ None
 quiet_begun w caller (Begin kind i) (reply.Begun work) quiet it = absurd (true≢false quiet)
 quiet_begun w caller (Begin kind i) (reply.Stopping work) quiet it =
@@ -68,7 +68,7 @@ quiet_begun w caller (OpenUse i path) r quiet it = opening_begun r (use_kind w c
 quiet_begun w caller (OpenExposed i name) r quiet it = opening_begun r (exposed_kind w caller i name r it)
 quiet_begun w caller e r quiet it = plain_begun r (plain_reply w caller e r refl it)
 
--- and ends nothing
+-- An event that changes nothing ends no action.
 quiet_ended : (w : World) (caller : ℕ) (e : Event) (r : Reply) → moves e r ≡ false → Allowed w caller e r → ended_by e ≡ None
 quiet_ended w caller (End a f) r quiet it =
     absurd (true≢false (sym (ap (moves (End a f)) it) ∙ quiet))

@@ -127,7 +127,7 @@ tasked_new url = record {
 
 -- ---- behind a change that leaves what is pending
 
--- at another row
+-- An action whose row is there still has it where another row was changed.
 task_kept : (rows : List Row) (i : ℕ) (f : Row → Row) (y : Act) → ((r : Row) → (f r).inc ≡ r.inc) → (y.inc ≡ i → ⊥) → HasRow rows y → HasRow (changed i f rows) y
 task_kept rows i f y keeps differ h = record {
   row = h.row;

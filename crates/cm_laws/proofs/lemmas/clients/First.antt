@@ -22,7 +22,7 @@ picked_stops w caller (Pick t) (reply.Stopping work) y allowed picks = subst (Ma
 picked_stops w caller (Pick t) (reply.ShutDown i) y allowed picks = subst (MayStop w.rows) (some_same i y picks) allowed.may.may_stop
 picked_stops w caller e r y allowed picks = absurd (none_some y picks)
 
--- and so has its clients shut
+-- In a sound tree, what may stop has its clients shut.
 stopping_clients : (w : World) (y : ℕ) → IsSound w.rows w.next_inc → MayStop w.rows y → HasClientsShut w y
 stopping_clients w y sound may = record {
   top = may.top;

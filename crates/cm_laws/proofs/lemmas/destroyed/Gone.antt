@@ -348,7 +348,7 @@ gone_named rows next i (reply.Purged lost) low gone there fit = inr refl
 gone_named rows next i (reply.Reaping incs) low gone there fit = inr refl
 gone_named rows next i r low gone there fit = true_and_false (is_gone rows i) gone (not-true (is_gone rows i) fit)
 
--- while it goes, it lives
+-- A row that a reply tells of as being removed lives, where the reply fits.
 live_named : (rows : List Row) (next i : ℕ) (r : Reply) → IsTrue (is_removing r) → IsTrue (fits rows next r i) → IsTrue (is_live rows i)
 live_named rows next i (reply.Stopping work) goes fit = fit
 live_named rows next i (reply.ShutDown j) goes fit = fit

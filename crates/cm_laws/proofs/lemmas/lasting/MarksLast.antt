@@ -270,7 +270,7 @@ marked_after w caller i doom r healthy step (inl new) =
 marked_after w caller i doom r healthy step (inr old) =
     marks_stay w (entry_of caller (Mark doom i) r ∷ []) i doom (step, tt) (already_marked w healthy i doom (sym step.allowed ∙ old))
 
--- the tree of a legal history
+-- The tree that a legal history leaves is healthy.
 pub healthy_of : (s : Story) → IsLegal s → IsHealthy (world_of s)
 unfolding world_of IsLegal
 healthy_of s legal = healthy_history s.frame s.entries legal
@@ -281,7 +281,7 @@ marks_mark old new caller i doom r legal tells said =
     subst (λ v. IsMarked doom v i) (sym (told_world old new caller (Mark doom i) r tells))
     (marked_after (world_of old) caller i doom r (healthy_of old legal) tells.step said)
 
--- behind an entry of a history too
+-- In the tree behind a mark that was made, or was there, the row is marked.
 marked_by : (w : World) (e : Entry) (i : ℕ) (doom : Bool) → IsHealthy w → IsStep w e → e.event ≡ Mark doom i → (e.reply ≡ reply.Marked) ⊎ (e.reply ≡ reply.Already) → IsMarked doom (after w e) i
 unfolding after
 marked_by w e i doom healthy step marks said =
@@ -289,7 +289,7 @@ marked_by w e i doom healthy step marks said =
     (marked_after w e.caller i doom e.reply healthy
     (record { enabled = tt; allowed = subst (λ x. Allowed w e.caller x e.reply) marks step.allowed }) said)
 
--- and it stays so
+-- In a legal history each mark holds until its row has left the tree.
 pub marks_hold : (f : Frame) (es : List Entry) → Legal (start f) es → MarksHold f es
 marks_hold f es legal prefix mid rest e i doom whole marks said =
     let w : World = replay (start f) prefix in
@@ -316,7 +316,7 @@ reap_marked w i c incs healthy said there =
     let found : (r : Row) × (row_of w.rows c ≡ Some r) × (r.doomed ≡ true) = reaped_row w.rows w.next_inc healthy.sound.orderly i c (subst (λ xs. Contains xs c) (reaped_by w.rows i incs said) there) in
     marked_row w true c found.0 healthy.sound.orderly found.1 (healthy.sound.doomed c found.0 found.1 found.2) (λ is. found.2)
 
--- and stays so
+-- The law `ReapsMarked`: what a reap tells of is marked to be destroyed.
 pub reaps_marked : ReapsMarked
 reaps_marked old new caller i c incs legal tells there =
     let w : World = world_of old in
@@ -414,7 +414,7 @@ pub over_may_purge : OverMayPurge
 over_may_purge w i marked over =
     may_purge_by (row_of w.rows i) (is_subtree_shut w.rows i) (marked.1 refl).marked over.shut
 
--- what a pick found done
+-- In a tree whose pick answers that all is done, all at and below its target is shut.
 done_shut : (w : World) (e : Entry) (t : ℕ) → IsStep w e → e.event ≡ Pick t → e.reply ≡ reply.Done → IsTrue (is_subtree_shut w.rows t)
 done_shut w e t step picks done =
     subst (λ r. Allowed w e.caller (Pick t) r) done (subst (λ x. Allowed w e.caller x e.reply) picks step.allowed)

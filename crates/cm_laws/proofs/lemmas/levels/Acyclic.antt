@@ -103,14 +103,14 @@ module _ (change : Row → Row) (keeps : KeepsLevels change) where
         row_decl rows p d was.row was.was (sym (same_decl row.0 was.row was.is) ∙ row.2);
   }
 
--- where one row is changed so
+-- In a sound tree, where one row is changed so that levels are kept, no level has a cycle.
 pub acyclic_changed : (rows : List Row) (next i : ℕ) (change : Row → Row) → IsSound rows next → KeepsLevels change → AllAcyclic (changed i change rows)
 acyclic_changed rows next i change sound keeps p =
     kept_acyclic rows (changed i change rows) next next sound.orderly (increasing_changed i next change keeps.inc rows sound.orderly.increasing) p (changed_kept change keeps rows i p) (sound.acyclic p)
 
 -- ---- rows leave
 
--- where a row and all below it leave
+-- In a sound tree, where a row and all below it leave, no level has a cycle.
 pub acyclic_purged : (rows : List Row) (next i : ℕ) → IsSound rows next → AllAcyclic (others_than rows i)
 acyclic_purged rows next i sound p =
     let left : Row → Bool = λ r. not (is_below rows i r.inc) in
@@ -341,6 +341,6 @@ module _ (rows : List Row) (next p : ℕ) (coll name url : List ℕ) (gives : Li
       (λ same. subst (λ j. NoCycle (LevelStrong created_rows j)) (sym same) (created_own acyclic))
       (λ apart. kept_acyclic rows created_rows next (next + 1) sound.orderly created_increasing q (created_kept q apart) (sound.acyclic q))
 
--- where a child is created with which the names have no cycle
+-- In a sound tree, where a child comes with which the names have no cycle, no level has one.
 pub acyclic_created : (rows : List Row) (next p : ℕ) (coll name url : List ℕ) (gives : List Give) (d : Decl) → IsSound rows next → decl_of rows p ≡ Some d → child_of rows p (dynamic_name coll name) ≡ None → NoCycle (StrongOn d (dynamic_with rows p (dynamic_name coll name) gives)) → AllAcyclic (rows ++ created_row next p coll name url gives ∷ [])
 acyclic_created rows next p coll name url gives d sound found unused acyclic = created_level rows next p coll name url gives d sound found acyclic

@@ -35,7 +35,7 @@ decl_by (Some r) d e = (r, refl, e)
 pub decl_row : (rows : List Row) (p : ℕ) (d : Decl) → decl_of rows p ≡ Some d → (r : Row) × (row_of rows p ≡ Some r) × (r.decl ≡ Some d)
 decl_row rows p d found = decl_by (row_of rows p) d found
 
--- and the declaration that stands at a row
+-- The declaration of a row that lives is the one that stands there.
 pub row_decl : (rows : List Row) (p : ℕ) (d : Decl) (r : Row) → row_of rows p ≡ Some r → r.decl ≡ Some d → decl_of rows p ≡ Some d
 row_decl rows p d r lives e = ap (λ o. option_and_then (λ r. r.decl) o) lives ∙ e
 
@@ -46,11 +46,11 @@ own_node rows p d found =
 
 -- ---- the sources of a node
 
--- where there is a declaration
+-- The sources of a node of a level, where its parent has a declaration, are its own or those of a child row.
 pub own_or_kid : (rows : List Row) (p x : ℕ) (d : Decl) → decl_of rows p ≡ Some d → level_sources rows p x ≡ cond (x == p) (own_sources d) (child_row_sources rows d x)
 own_or_kid rows p x d found = ap (λ o. elim o as (λ _. List Origin) [ None ↦ [] | Some d ↦ cond (x == p) (own_sources d) (child_row_sources rows d x) ]) found
 
--- of a child row
+-- The sources of a child's incarnation are those of the row that has it.
 pub kid_sources : (rows : List Row) (d : Decl) (x : ℕ) (r : Row) → row_of rows x ≡ Some r → child_row_sources rows d x ≡ row_sources d r
 kid_sources rows d x r lives = ap (λ o. elim o as (λ _. List Origin) [ None ↦ [] | Some r ↦ row_sources d r ]) lives
 

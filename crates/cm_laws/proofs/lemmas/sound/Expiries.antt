@@ -195,7 +195,7 @@ found_here (y ∷ pre) x xs next increasing =
     let lives : row_of (pre ++ x ∷ xs) x.inc ≡ Some x = found_here pre x xs next increasing.1 in
     ap (λ t. cond t (Some y) (row_of (pre ++ x ∷ xs) x.inc)) (apart y x (pre ++ x ∷ xs) increasing.0.1 lives) ∙ lives
 
--- and changed there
+-- Where a row in the midst of others is changed, it alone is changed.
 changed_here : (f : Row → Row) (pre : List Row) (x : Row) (xs : List Row) (next : ℕ) → IncarnationsIncrease next (pre ++ x ∷ xs) → changed x.inc f (pre ++ x ∷ xs) ≡ pre ++ f x ∷ xs
 changed_here f [] x xs next increasing =
     ap (λ t. cond t (f x ∷ xs) (x ∷ changed x.inc f xs)) ((unsigned_Decides x.inc x.inc).1 refl)

@@ -17,7 +17,7 @@ use Rattle.cm_laws.proofs.lemmas.sound.Changes.{is_static_name, sound_changed}
 
 -- ---- whether it is on, and what is pending
 
--- a change of these two alone
+-- A change of a row that leaves its incarnation, place, name, declaration, gives and marks as they are.
 pub record IsLight (f : Row → Row) : Type 0 where
   pub inc : (r : Row) → (f r).inc ≡ r.inc
   pub parent : (r : Row) → (f r).parent ≡ r.parent

@@ -33,7 +33,8 @@ tasked_more rows kids acts tasked idle = record {
   ];
 }
 
--- where rows that are shut with all below them have gone
+-- Where rows that are shut with all below them leave, each row's pending action is still open, and the other
+-- way round.
 pub tasked_purged : (rows : List Row) (next top : ℕ) (acts : List Act) → IsSound rows next → IsTrue (is_subtree_shut rows top) → IsTasked rows acts → IsTasked (others_than rows top) acts
 tasked_purged rows next top acts sound shut tasked = record {
   rows_of = λ a x there pending. let h : HasRow rows x = tasked.rows_of a x there pending in

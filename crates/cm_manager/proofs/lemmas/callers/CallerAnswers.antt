@@ -66,7 +66,7 @@ gather_cut {A} Item x xs rest lines e s u is it =
     (cut_gathers (Item f c) x rest lines a b way.0 e way.1 way.2))
     it
 
--- no item is left
+-- Where no item is left, the lines so far are all that is gathered, and nothing is done.
 pub gather_done : {A : Type 0} (Item : Items A) (xs : List A) (lines : List Checked) (s : CallerView) → xs ≡ [] → IsSamePass (frame_of s.pass) s.pass s.pass → CallerRuns (λ f c a b. Gathering (GathersEach (Item f c) xs) lines a b (Ok lines)) s s
 gather_done {A} Item xs lines s none known =
     stays (GatheredWay Item xs lines (Ok lines)) s known
@@ -75,7 +75,7 @@ gather_done {A} Item xs lines s none known =
 
 -- ---- paths and rows
 
--- a path has its line
+-- A route that was tried for a path adds the line that tells its result.
 pub path_line : (row : SurveyRow) (path : List ℕ) (lines : List Checked) (went : Result Reply Refusal) (found : Result Route Refusal) (end : Result (List Checked) Refusal) (s u : CallerView) → CallerRuns (λ f c a b. RetriesEvent f c (event.Route row.inc path) a b went) s u → found ≡ route_by went → AddsLines lines (line_of row.moniker path found) end → CallerRuns (λ f c a b. Adding (OfPath f c row path) lines a b end) s u
 path_line row path lines went found end s u it is adds =
     runs_as (λ f c a b. RetriesEvent f c (event.Route row.inc path) a b went) (λ f c a b. Adding (OfPath f c row path) lines a b end) s u
@@ -87,7 +87,7 @@ row_lines row lines end s u is it =
     runs_as (λ f c a b. Gathering (GathersEach (OfPath f c row) row.paths) lines a b end) (λ f c a b. Adding (OfRow f c row) lines a b end) s u
     (λ f c a b way. (way.0, OfRow.resolved is way.1, adds_of lines way.0 end way.2)) it
 
--- and one that isn't has one line
+-- A row that isn't resolved has one line, and nothing is asked for it.
 pub unresolved_row : (row : SurveyRow) (lines : List Checked) (end : Result (List Checked) Refusal) (s : CallerView) → IsFalse row.resolved → IsSamePass (frame_of s.pass) s.pass s.pass → AddsLines lines (Ok (unresolved_line row.moniker ∷ [])) end → CallerRuns (λ f c a b. Adding (OfRow f c row) lines a b end) s s
 unresolved_row row lines end s is known adds =
     stays (λ f c a b. Adding (OfRow f c row) lines a b end) s known (Ok (unresolved_line row.moniker ∷ []), OfRow.unresolved is, adds)
@@ -103,7 +103,7 @@ doctor_runs i rows end a s u v by first all =
     (Doctors.surveyed way.1 (sym way.2) more.1))
     first all
 
--- the survey is refused
+-- Where the survey is refused, the check of all routes is refused so.
 pub survey_refused : (i : ℕ) (x : Refusal) (s u : CallerView) → CallerRuns (λ f c a b. Surveying f c i a b (Err x)) s u → CallerRuns (λ f c a b. Doctors f c i a b (Err x)) s u
 survey_refused i x s u it =
     runs_as (λ f c a b. Surveying f c i a b (Err x)) (λ f c a b. Doctors f c i a b (Err x)) s u (λ f c a b way. Doctors.not_surveyed way.1 (sym way.2)) it

@@ -42,14 +42,14 @@ use Rattle.cm_manager.proofs.lemmas.onward.Tryings.{asked_help, cut_trying}
 pub caller_trans : (s t u : CallerView) → IsSameCaller s t → IsSameCaller t u → IsSameCaller s u
 caller_trans s t u first second = record { manager = second.manager ∙ first.manager; name = second.name ∙ first.name }
 
--- a way by another name
+-- A caller that came one way came any way that it implies.
 pub runs_as : (Way Other : CallerWay) (s t : CallerView) → ((f : Frame) (c : ℕ) (a b : List Entry) → Way f c a b → Other f c a b) → CallerRuns Way s t → CallerRuns Other s t
 runs_as Way Other s t other it = record {
   caller = it.caller;
   helps = helps_as s.manager.manifests (frame_of s.pass) (Way (frame_of s.pass) s.pass.caller) (Other (frame_of s.pass) s.pass.caller) s.pass t.pass s.gates t.gates (other (frame_of s.pass) s.pass.caller s.pass.seen t.pass.seen) it.helps;
 }
 
--- one way, and another behind it
+-- A caller that came one way and then another came the whole way that both make.
 pub runs_then : (First Second Whole : CallerWay) (s t u : CallerView) → ((f : Frame) (c : ℕ) (a b d : List Entry) → First f c a b → Second f c b d → Whole f c a d) → CallerRuns First s t → CallerRuns Second t u → CallerRuns Whole s u
 runs_then First Second Whole s t u both first second =
     let f = frame_of s.pass in
@@ -62,7 +62,7 @@ runs_then First Second Whole s t u both first second =
           (subst (λ (m : ManagerView). IsSubcall m.manifests (frame_of t.pass) (Second (frame_of t.pass) t.pass.caller) t.pass u.pass t.gates u.gates) first.caller.manager second.helps));
     }
 
--- turns whose entries make a way
+-- Turns of a caller with gates as they were, whose entries make a way, are that way.
 pub turns_run : (Way : CallerWay) (s t : CallerView) → TakesTurns s t → IsSubcall s.manager.manifests (frame_of s.pass) (Way (frame_of s.pass) s.pass.caller) s.pass t.pass s.gates s.gates → CallerRuns Way s t
 turns_run Way s t turns helps = record {
   caller = turns.caller;
@@ -85,7 +85,7 @@ loop_on Step Rest Next Whole first now next both leads step = record {
 pub known_run : (Way : CallerWay) (s t : CallerView) → CallerRuns Way s t → IsSamePass (frame_of t.pass) t.pass t.pass
 known_run Way s t it = known_next s.pass t.pass it.helps.same
 
--- a caller that does nothing
+-- A caller that does nothing came a way that nothing may come.
 pub stays : (Way : CallerWay) (s : CallerView) → IsSamePass (frame_of s.pass) s.pass s.pass → Way (frame_of s.pass) s.pass.caller s.pass.seen s.pass.seen → CallerRuns Way s s
 stays Way s known way = record {
   caller = record { manager = refl; name = refl };

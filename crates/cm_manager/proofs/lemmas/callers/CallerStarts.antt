@@ -28,7 +28,7 @@ StartWay i end f c a b = StartsBy f c i end a b
 abbrev ResolveWay : ℕ → Result ActionResult Refusal → CallerWay
 ResolveWay j went f c a b = RunsAction f c kind.Resolve j a b went
 
--- the resolve fails or is cut
+-- Where the resolve that a start needs fails or is cut, the start is settled so.
 pub failed_first : (i j : ℕ) (went failed : Result ActionResult Refusal) (s t u : CallerView) → CallerRuns (Needing i j) s t → CallerRuns (λ f c a b. RunsAction f c kind.Resolve j a b went) t u → FailsBy went (Some failed) → CallerRuns (λ f c a b. StartsBy f c i (launch.Settled failed) a b) s u
 failed_first i j went failed s t u needs acts fails =
     runs_then (Needing i j) (ResolveWay j went) (StartWay i (launch.Settled failed)) s t u

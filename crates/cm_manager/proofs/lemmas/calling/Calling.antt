@@ -22,7 +22,7 @@ use Rattle.cm_manager.specs.Asking.{is_asked, is_plain}
 
 -- ---- a request of one event
 
--- one that is none of the others
+-- A request that is no begin, no mark and no tail is a single one.
 pub single_is : (r : Request) → ((k : ActKind) → r ≢ request.Begin k) → ((doom : Bool) → r ≢ request.Mark doom) → ((from : ℕ) → r ≢ request.Tail from) → IsTrue (is_single r)
 single_is (request.Begin kind) begin mark tail = absurd (begin kind refl)
 single_is (request.Mark doom) begin mark tail = absurd (mark doom refl)

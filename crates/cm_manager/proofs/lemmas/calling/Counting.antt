@@ -29,7 +29,7 @@ untold : (c : ℕ) (e : Event) (r : Reply) → IsFalse (is_end e) → tells_fail
 untold c (event.End a end) r apart = absurd (cc apart)
 untold c _ r apart = refl
 
--- nor does one that begins an action
+-- An event that begins an action ends none.
 begun_apart : (e : Event) (r : Reply) (b : ActKind × Work) → begins e r ≡ Some b → IsFalse (is_end e)
 begun_apart (event.End a end) r b is = absurd (cc is)
 begun_apart _ r b is = refl

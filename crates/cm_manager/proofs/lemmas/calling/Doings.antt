@@ -188,7 +188,7 @@ pub did_halt : (manifests : Manifests) (w : Work) (runner : List ℕ) (answer : 
 did_halt manifests w runner answer o g h by is grew later rose =
     subst (λ (o : Outcome). Did manifests w kind.Stop (finish.Other o) g h) (sym by) (halt_did manifests w runner answer g h is grew later rose)
 
--- the same of the job that was asked about
+-- A launch of the job that was asked about is the work of its start.
 pub launched_for : (manifests : Manifests) (w : Work) (job : Job) (answer : Launched) (o : Outcome) (g h : GatesView) → HasJob w (Some job) → o ≡ launched_outcome answer → Grew g.log h.log (Launch job answer ∷ []) → g.faults ≤ h.faults → (answer ≡ launched.Failed → Rose g.faults h.faults) → Did manifests w kind.Start (finish.Other o) g h
 launched_for manifests w job answer o g h has by grew later rose =
     did_launch manifests w has.0 answer o g h by has.1 (subst (λ (j : Job). Grew g.log h.log (Launch j answer ∷ [])) has.2 grew) later rose

@@ -44,7 +44,7 @@ one_created f c i j (Ok _) end x y one it = absurd (cc one)
 abbrev pub Looks : ℕ → Frame → ℕ → List Entry → List Entry → Type 0
 Looks i f c a b = IsLaterHistory c a b × IsTrue (runs_once (world_after f b).rows i)
 
--- it doesn't, and nothing is done
+-- Where a created child doesn't run once, nothing is done behind it.
 pub not_once : (manifests : Manifests) (i : ℕ) (once : Bool) (p q : RealmPass) (g : GatesView) → IsSamePass (frame_of p) p q → IsLaterHistory p.caller p.seen q.seen → q.mine ≡ p.mine → once ≡ runs_once (world_after (frame_of p) q.seen).rows i → once ≡ false → IsSubcall manifests (frame_of p) (λ a b. StartsSingleRun (frame_of p) p.caller i a b None) p q g g
 not_once manifests i once p q g same later mine by is =
     helps_nothing manifests (frame_of p) (λ a b. StartsSingleRun (frame_of p) p.caller i a b None) p q g same (StartsSingleRun.not_once later (sym by ∙ is)) mine
@@ -95,7 +95,7 @@ sweep_not_start : (i j : ℕ) (b : Bool) → swept_for i b ≡ next.Start j → 
 sweep_not_start i j true is = cc is
 sweep_not_start i j false is = cc is
 
--- nothing follows the reply
+-- Where nothing follows a reply, what follows is done without an entry.
 pub no_follow : (f : Frame) (c : ℕ) (r : Request) (i : ℕ) (went : Result Reply Refusal) (h : List Entry) → follow_of r i went ≡ next.Nothing → Then (FollowsBy f c r i) went h h None
 no_follow f c (request.Create coll name url gives) i went h is = none_created f c i went h (no_start (created_in went) is)
 no_follow f c request.Exited i went h is = none_left f c i went h (no_sweep i (has_left went) is)

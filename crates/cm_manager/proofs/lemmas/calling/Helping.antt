@@ -50,7 +50,7 @@ works_unasked manifests part g works = works_with manifests part g.log g.log g.f
 pub works_nothing : (manifests : Manifests) (g : GatesView) → WorksWith manifests [] g.log g.log g.faults g.faults
 works_nothing manifests g = works_unasked manifests [] g nothing
 
--- one help, and then another
+-- What a call did by one part and then by another, it did by the whole that both make.
 pub helps_then : (manifests : Manifests) (f : Frame) (First Second Whole : List Entry → List Entry → Type 0) (p q r : RealmPass) (g h k : GatesView) → (First p.seen q.seen → Second q.seen r.seen → Whole p.seen r.seen) → IsSubcall manifests f First p q g h → IsSubcall manifests f Second q r h k → IsSubcall manifests f Whole p r g k
 helps_then manifests f First Second Whole p q r g h k both first second = record {
   same = same_trans f p q r first.same second.same;
@@ -61,7 +61,7 @@ helps_then manifests f First Second Whole p q r g h k both first second = record
   work = works_trans manifests first.part second.part g h k first.work second.work;
 }
 
--- a help by another name
+-- What a call did one way, it did any way that this implies.
 pub helps_as : (manifests : Manifests) (f : Frame) (CallWay Other : List Entry → List Entry → Type 0) (p q : RealmPass) (g h : GatesView) → (CallWay p.seen q.seen → Other p.seen q.seen) → IsSubcall manifests f CallWay p q g h → IsSubcall manifests f Other p q g h
 helps_as manifests f CallWay Other p q g h name help = record {
   same = help.same;
@@ -74,7 +74,7 @@ helps_as manifests f CallWay Other p q g h name help = record {
 
 -- ---- single turns
 
--- no entry
+-- A way without an entry of its own, with gates as they are, is a part of a call.
 pub helps_nothing : (manifests : Manifests) (f : Frame) (CallWay : List Entry → List Entry → Type 0) (p q : RealmPass) (g : GatesView) → IsSamePass f p q → CallWay p.seen q.seen → q.mine ≡ p.mine → IsSubcall manifests f CallWay p q g g
 helps_nothing manifests f CallWay p q g same way mine = record {
   same = same;
@@ -109,7 +109,7 @@ helps_acted manifests f CallWay p q t g h e r k w end o begins first second way 
       (ends begins (end, refl, did.does, did.counts) nothing) (subst (Grew g.log h.log) (sym (append-nil did.asked)) did.log);
 }
 
--- a join and its await
+-- A join and its await, without gate work between them, are a part of a call.
 pub helps_joined : (manifests : Manifests) (f : Frame) (CallWay : List Entry → List Entry → Type 0) (p q r : RealmPass) (g : GatesView) (k : ActKind) (i a : ℕ) (o : Outcome) → IsSamePass f p q → IsSamePass f q r → CallWay p.seen r.seen → q.mine ≡ p.mine ++ entry_of p.caller (event.Begin k i) (reply.Joined a) ∷ [] → r.mine ≡ q.mine ++ entry_of q.caller (event.Await a) (reply.Ended o) ∷ [] → IsSubcall manifests f CallWay p r g g
 helps_joined manifests f CallWay p q r g k i a o first second way joined ended = record {
   same = same_trans f p q r first second;

@@ -9,7 +9,7 @@ use Rattle.cm_gate.specs.declared.asked.GateCall.{GateCall}
 use Rattle.cm_manager.specs.Work.{Manifests, Works, nothing, passes, ends}
 use Rattle.cm_turn.proofs.lemmas.Histories.{starts-trans}
 
--- turns without an entry change nothing
+-- A later history of a later one is a later one, with the caller's own entries as they were.
 pub later-trans : (c : ℕ) (a b d : List Entry) → IsLaterHistory c a b → IsLaterHistory c b d → IsLaterHistory c a d
 later-trans c a b d ab bd = record { grows = starts-trans d b a bd.grows ab.grows; own = bd.own ∙ ab.own }
 

@@ -61,7 +61,7 @@ keeps_helps manifests f CallWay q r h k is = record {
   work = is.work;
 }
 
--- and so does a meeting
+-- A pass that learns what another saw, behind whole calls, still keeps whole calls.
 pub keeps_met : (manifests : Manifests) (p q : RealmPass) (s : List Entry) (g h : GatesView) → KeepsPass manifests p q g h → StartsWith s q.seen → IsOwnPass (seen_up_to s q) → KeepsPass manifests p (seen_up_to s q) g h
 keeps_met manifests p q s g h is grows own = record {
   lock = is.lock;
@@ -79,7 +79,7 @@ keeps_met manifests p q s g h is grows own = record {
 pub met_later : (q : RealmPass) (s : List Entry) → StartsWith s q.seen → IsOwnPass q → IsOwnPass (seen_up_to s q) → IsLaterHistory q.caller q.seen s
 met_later q s grows own met = record { grows = grows; own = met ∙ sym own }
 
--- a meeting alone
+-- A pass that only learns what another saw keeps whole calls, and its gates.
 pub keeps_learns : (manifests : Manifests) (p : RealmPass) (s : List Entry) (g : GatesView) → StartsWith s p.seen → IsOwnPass (seen_up_to s p) → KeepsPass manifests p (seen_up_to s p) g g
 keeps_learns manifests p s g grows own = record {
   lock = refl;

@@ -6,6 +6,6 @@ use Rattle.cm_turn.specs.Passes.{LockView}
 use Rattle.cm_manager.specs.Contract.{RealmPass}
 use Rattle.cm_manager.specs.Kept.{AreSixteen}
 
--- there are sixteen of them
+-- Sixteen passes are a list of sixteen.
 pub sixteen_long : (turn : LockView) (passes : List RealmPass) → AreSixteen turn passes → length passes ≡ 16
 sixteen_long turn passes are = sym (length-map passes (λ (p : RealmPass). p.caller)) ∙ ap (λ (l : List ℕ). length l) are.callers ∙ length-range_with_len 0 16

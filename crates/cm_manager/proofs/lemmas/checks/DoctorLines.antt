@@ -36,7 +36,7 @@ here_next {A} items xs i x same lt is =
     subst (λ (l : List A). drop i l ≡ x ∷ drop (i + 1) l) same
     (drop_more items i x lt ∙ ap (λ (y : A). y ∷ drop (i + 1) items) (sym is))
 
--- no item is left
+-- Behind the last item none is left.
 pub none_left : {A : Type 0} (items xs : List A) (i : ℕ) → items ≡ xs → length items ≤ i → drop i xs ≡ []
 none_left {A} items xs i same past = subst (λ (l : List A). drop i l ≡ []) same (drop_all i items past)
 

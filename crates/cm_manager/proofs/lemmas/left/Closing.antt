@@ -101,7 +101,7 @@ clears_close f c (Clears.none_left {h = h}) = later-grows c h h (later-self c h)
 clears_close f c (Clears.next_row {i = i} first rest) = grows-trans c _ _ _ (removes_close f c i first) (clears_close f c rest)
 clears_close f c (Clears.cut_row {i = i} first) = removes_close f c i first
 
--- and so has each of those that are removed
+-- A sweep adds a closed part: each action that it begins has its end there.
 pub sweeps_close : (f : Frame) (c i : ℕ) {a b : List Entry} {end : Option Refusal} → Sweeps f c i a b end → AddsClosedPart c a b
 sweeps_close f c i (Sweeps.swept asks rest) = grows-trans c _ _ _ (plain-grows c _ _ _ _ refl refl asks.made) (clears_close f c rest)
 sweeps_close f c i (Sweeps.cut_reap {h₀ = a} {h₁ = b} {x = x} is) = later-grows c a b (cut-later f c a b (event.Reap i) x is)

@@ -29,7 +29,7 @@ closes_by history passes s is legal known callers = record {
 pub known_frames : (passes : List RealmPass) (s : Story) → All (BearsPassOut (λ (s : Story). s.entries) (λ s. s.frame) (λ (e : Entry). e.caller) s) passes → All (λ (p : RealmPass). p.frame ≡ Some s.frame) passes
 known_frames passes s known = λ k d lt. (known k d lt).0
 
--- and the realm's book is that of the frame of each of them
+-- The book of a realm is that of the frame of each pass of it.
 pub book_of : (s : Story) (book : History) (passes : List RealmPass) → book.entries ≡ s.entries → book.limit ≡ s.frame.limits.entries → book.reserved ≡ owed_by (world_of s) → All (λ (p : RealmPass). p.frame ≡ Some s.frame) passes → All (λ (p : RealmPass). IsBookOf (frame_of p) book) passes
 unfolding world_of
 book_of s book passes entries limit reserved frames = λ k d lt.

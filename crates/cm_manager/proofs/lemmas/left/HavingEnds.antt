@@ -68,7 +68,7 @@ joins_apart (event.Begin k i) (reply.Joined a') a b joined is = absurd (cc is)
 joins_apart (event.Begin k i) _ a b joined is = absurd (cc joined)
 joins_apart _ r a b joined is = absurd (cc joined)
 
--- behind an entry that doesn't begin this work
+-- Where an entry doesn't begin this work, the work is ended behind it if it was behind the others.
 behind_other : (b : ActKind × Work) (e : Entry) (es : List Entry) → (BeginsWork b e → ⊥) → (Any (BeginsWork b) es → Any (EndsAction b.1.action) es) → Any (BeginsWork b) (e ∷ es) → Any (EndsAction b.1.action) (e ∷ es)
 behind_other b e es never rest any = ⊎_elim
     (λ (is : BeginsWork b e). absurd (never is))

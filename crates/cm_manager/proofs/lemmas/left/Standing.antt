@@ -52,7 +52,7 @@ joins_later f c a seen found l joined =
 pub last_step : (f : Frame) (c : ℕ) (old : List Entry) (e : Event) (r : Reply) (new : List Entry) → Legal (start f) new → (m : AddsOneEntry c old e r new) → IsStep (world_after f m.found) (entry_of c e r)
 last_step f c old e r new legal m = (Legal-split (start f) m.found (entry_of c e r ∷ []) (subst (Legal (start f)) m.entries legal)).1.0
 
--- as a step of a realm
+-- One entry more of a caller, in a legal history, is a step of the realm that has the history before it.
 pub told : (f : Frame) (c : ℕ) (old : List Entry) (e : Event) (r : Reply) (new : List Entry) → Legal (start f) new → (m : AddsOneEntry c old e r new) → AddsEntry (record { frame = f; entries = m.found }) (record { frame = f; entries = new }) c e r
 unfolding world_of
 told f c old e r new legal m = record { entries = m.entries; frame = refl; step = last_step f c old e r new legal m }

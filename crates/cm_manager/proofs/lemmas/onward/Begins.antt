@@ -75,7 +75,7 @@ unstopped_end kind.Start (finish.Other outcome.Stopped) limit rows next fits apa
 unstopped_end kind.Start (finish.Other outcome.Killed) limit rows next fits apart = absurd (cc fits)
 unstopped_end kind.Start (finish.Other _) limit rows next fits apart = refl
 
--- and a stop has
+-- An end that fits a stop has the outcome of one that stopped.
 stopped_end : (end : Finish) (limit : ℕ) (rows : List Row) (next : ℕ) → IsTrue (fits_kind kind.Stop end) → IsTrue (is_stopped (outcome_by limit rows next end))
 stopped_end (finish.Other outcome.Stopped) limit rows next fits = refl
 stopped_end (finish.Other outcome.Killed) limit rows next fits = refl

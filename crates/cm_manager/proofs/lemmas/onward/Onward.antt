@@ -6,7 +6,7 @@ use Rattle.cm_world.specs.Legal.{Legal}
 use Rattle.cm_manager.specs.Asking.{frame_in, frame_of}
 use Rattle.cm_manager.specs.Contract.{RealmPass, IsSamePass}
 
--- the same pass has one frame
+-- A pass whose frame stayed has the same frame.
 pub frame_kept : (p q : RealmPass) → q.frame ≡ p.frame → frame_of q ≡ frame_of p
 frame_kept p q same = ap frame_in same
 

@@ -118,7 +118,7 @@ streams_told s t c i from n r told scope rows es tells room is tree at all read 
 abbrev Went : Type 0
 Went = Result (Result Answer Refusal) NoStep
 
--- what it adds
+-- The entries that a turn of `events` adds: its own one, or none where it was refused.
 pub adds : (c i from : ℕ) (old new : Story) (went : Went) → StreamsBy old new c i from went → List Entry
 adds c i from old new (Ok a) is = entry_of c (event.Tail i from) is.0 ∷ []
 adds c i from old new (Err x) is = []
@@ -151,7 +151,7 @@ streamed p q s t i from (Err nostep.Memory) is took =
     let none = nothing_by p q s t took in
     (Streams.cut none.0, inl none.1)
 
--- by the caller's number
+-- What a turn of `events` came to, by the caller's own number, is what the call promises.
 pub streamed_as : (p q : RealmPass) (s t : Story) (c i from : ℕ) (went : Went) → c ≡ p.caller → (is : StreamsBy s t c i from went) → Took p q s t (adds c i from s t went is) → StreamedBy i from p q (answer_in went)
 streamed_as p q s t c i from went by is took =
     let both = subst (λ (n : ℕ). (x : StreamsBy s t n i from went) × Took p q s t (adds n i from s t went x)) by (is, took) in

@@ -18,11 +18,11 @@ use Rattle.cm_manager.proofs.lemmas.calling.Helping.{helps_nothing, helps_plain}
 abbrev pub Trying : Event → Frame → ℕ → Result Reply Refusal → List Entry → List Entry → Type 0
 Trying e f c end a b = RetriesEvent f c e a b end
 
--- one turn with it
+-- One turn that adds the entry of this event with this reply, for which there was room.
 abbrev pub Replying : Event → Reply → Frame → ℕ → List Entry → List Entry → Type 0
 Replying e r f c a b = AddsWithinRoom f c a e r b
 
--- it begins, joins and ends no action
+-- An event that is asked for, and is plain, begins, joins and ends no action.
 apart_of : (e : Event) (r : Reply) → IsTrue (is_asked e) → IsTrue (is_plain e) → IsFalse (is_end e) × (begins e r ≡ None) × (joins e r ≡ None)
 apart_of (event.Find m) r asked plain = (refl, refl, refl)
 apart_of (event.Begin k i) r asked plain = absurd (cc plain)

@@ -114,7 +114,7 @@ makes_by p q s t e r is = record {
   entries = is.left.seen ∙ is.goes.entries;
 }
 
--- a turn without an entry
+-- A turn without an entry finds a later history, and the caller's own entries stay.
 pub nothing_by : (p q : RealmPass) (s t : Story) → Took p q s t [] → IsLaterHistory p.caller p.seen q.seen × (q.mine ≡ p.mine)
 nothing_by p q s t is = (
   subst (IsLaterHistory p.caller p.seen) (sym (is.left.seen ∙ is.goes.entries ∙ append-nil s.entries)) (since_seen p s is.entered),
@@ -128,7 +128,7 @@ found_by p q s t P is holds =
     subst (λ (f : Frame). P (world_after f q.seen)) (sym (ap frame_in is.entered.frame))
     (subst (λ (l : List Entry). P (world_after s.frame l)) (sym (is.left.seen ∙ is.goes.entries ∙ append-nil s.entries)) holds)
 
--- so what it reads there
+-- What a turn without an entry reads of a row is so in the tree that the pass has seen then.
 pub looked_by : (p q : RealmPass) (s t : Story) (i : ℕ) (once : Bool) → Took p q s t [] → once ≡ runs_once (world_of s).rows i → once ≡ runs_once (world_after (frame_of p) q.seen).rows i
 looked_by p q s t i once is read = found_by p q s t (λ (w : World). once ≡ runs_once w.rows i) is read
 
@@ -289,7 +289,7 @@ turned_later idle after e (nostep.Busy a) turned = turned
 turned_later idle after e nostep.HistoryFull turned = (turned.0.0, turned.1)
 turned_later idle after e nostep.Memory turned = turned
 
--- so that its caller may go on waiting
+-- A turn that made no entry leaves a caller that waits where it may go on waiting.
 pub waits_turned : (first idle after : RealmPass) (e : Event) (r : Result Reply NoStep) (x : NoStep) → Waits first idle → IsSamePass (frame_of idle) idle after → r ≡ Err x → Turned e idle after r → Waits first after
 waits_turned first idle after e r x waits same fails turned =
     waits_more first idle after waits same (turned_later idle after e x (subst (λ (s : Result Reply NoStep). Turned e idle after s) fails turned))

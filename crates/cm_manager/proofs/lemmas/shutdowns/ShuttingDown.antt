@@ -98,7 +98,7 @@ on_help manifests t w end o p q r g h first asked did second told =
 abbrev pub Picking : ℕ → PickTurn → Frame → ℕ → List Entry → List Entry → Type 0
 Picking t by f c a b = PickRun f c t by a b
 
--- behind the last pick all is shut
+-- Behind the last pick, which tells that all is done, all below the target is shut.
 pub done_over : MarksStay → DoneIsOver → (manifests : Manifests) (t : ℕ) (by : PickTurn) (p q : RealmPass) (g h : GatesView) → IsLeaving (world_after (frame_of p) p.seen) t → by ≡ picked.Done → IsSubcall manifests (frame_of p) (λ a b. Picking t by (frame_of p) p.caller a b) p q g h → IsShutBelow (world_after (frame_of q) q.seen) t
 unfolding world_of
 done_over stays done manifests t by p q g h leaving is help =
@@ -129,7 +129,7 @@ marks_help manifests doom i (Ok r) p q g is same it =
     helps_plain manifests (frame_of p) (λ a b. Marks doom i (frame_of p) p.caller a b) p q g (event.Mark doom i) r refl refl refl same (r, it.0, is) it.1
 marks_help manifests doom i (Err x) p q g is same it = absurd (cc is)
 
--- behind it the row is marked
+-- Behind a mark that was not refused the row is marked.
 pub marked_at : MarksMark → (doom : Bool) (i : ℕ) (asked : Result Reply Refusal) (p q : RealmPass) → unmarked_by asked ≡ None → IsSamePass (frame_of p) p q → RecordsEvent (event.Mark doom i) p q asked → IsMarked doom (world_after (frame_of q) q.seen) i
 unfolding world_of IsLegal
 marked_at marks doom i (Ok r) p q is same it =
@@ -141,7 +141,7 @@ marked_at marks doom i (Ok r) p q is same it =
     (told f p.caller p.seen (event.Mark doom i) r q.seen same.legal made) (unmarked_not r is))
 marked_at marks doom i (Err x) p q is same it = absurd (cc is)
 
--- and stays so
+-- A row that was marked in a tree seen before is marked in the one seen later.
 pub marked_next : MarksStay → (doom : Bool) (i : ℕ) (p q : RealmPass) → IsSamePass (frame_of p) p q → IsMarked doom (world_after (frame_of p) p.seen) i → IsMarked doom (world_after (frame_of q) q.seen) i
 marked_next stays doom i p q same marked =
     subst (λ (f : Frame). IsMarked doom (world_after f q.seen) i) (sym (frame_kept p q same.frame))

@@ -40,11 +40,11 @@ removed_by f c i (Some x) a b d stops purges = Removes.cut_remove stops purges
 
 -- ---- rows that are removed in order
 
--- each of them is marked
+-- A row at a place of the list is marked, where all in the list are.
 pub item_marked : (w : World) (rows items : List ℕ) (k i : ℕ) → ((j : ℕ) → Contains rows j → IsMarked true w j) → items ≡ rows → k < length items → i ≡ get_or items k i → IsMarked true w i
 item_marked w rows items k i marked same lt is = marked i (subst (λ (l : List ℕ). Contains l i) same (k, lt, sym is))
 
--- and stays so
+-- Rows that were marked in a tree seen before are all marked in the one seen later.
 pub all_marked : MarksStay → (rows : List ℕ) (p q : RealmPass) → IsSamePass (frame_of p) p q → ((j : ℕ) → Contains rows j → IsMarked true (world_after (frame_of p) p.seen) j) → (j : ℕ) → Contains rows j → IsMarked true (world_after (frame_of q) q.seen) j
 all_marked stays rows p q same marked j there = marked_next stays true j p q same (marked j there)
 
@@ -71,7 +71,7 @@ reap_marks marks i incs p q same asked j there =
 abbrev pub Sweeping : ℕ → Frame → ℕ → Option Refusal → List Entry → List Entry → Type 0
 Sweeping i f c end a b = Sweeps f c i a b end
 
--- one turn with the reap
+-- One turn that adds the entry of a reap with these rows, for which there was room.
 abbrev pub Reaps : ℕ → List ℕ → Frame → ℕ → List Entry → List Entry → Type 0
 Reaps i incs f c a b = AddsWithinRoom f c a (event.Reap i) (reply.Reaping incs) b
 

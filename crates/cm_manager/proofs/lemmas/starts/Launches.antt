@@ -80,6 +80,6 @@ children_row f c e n eager es a b d end starts all =
       | inr s ↦ subst (λ (o : Option Refusal). StartsEager f c (e ∷ es) a d o) (sym s.1) (StartsEager.cut_at (starts d (Some s.0) s.2) refl)
     ]
 
--- memory is wanting for them
+-- Where memory is wanting for eager children that are there, the starts end for lack of it.
 pub wanting_row : (f : Frame) (c e n : ℕ) (eager es : List ℕ) (a b : List Entry) → eager ≢ [] → StartsBy f c e (launch.Children n eager) a b → StartsEager f c (e ∷ es) a b (Some refusal.Memory)
 wanting_row f c e n eager es a b some starts = StartsEager.cut_at (wanting_start f c e n eager a b some starts) refl

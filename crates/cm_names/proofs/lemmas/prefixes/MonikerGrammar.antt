@@ -362,7 +362,7 @@ holds_more (Second n) b q t e h =
     (λ l. one_more_byte Others n b t l.0 (moved (Second (n + 1)) q t l.2 h (omega (arith, l.1))))
     (went Second n b q e)
 
--- where the text may end
+-- Where a moniker may end, nothing more has to stand there.
 holds_none : (p : MonikerState) → may_end p ≡ true → Holds p []
 holds_none Start e = absurd (true≢false (sym e))
 holds_none Whole e = refl

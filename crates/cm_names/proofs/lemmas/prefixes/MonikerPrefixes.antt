@@ -33,7 +33,7 @@ prefix xs i p le short way =
       | false ↦ λ e. let room : i < 4096 = way.room e in can_begin reads_monikers (take i xs) p way.leads (97 ∷ []) (letter p e) (omega arith)
     ] refl
 
--- the next byte leads nowhere
+-- Where the next byte leads nowhere, the bytes before it are the longest prefix of a moniker.
 pub stuck : (xs : List ℕ) (i : ℕ) (p : MonikerState) → i < length xs → length xs ≤ 4096 → IsUnderWay xs i p → next p (get_or xs i 0) ≡ None → IsLongestPrefix IsMonikerText xs i
 stuck xs i p lt short way e = record {
   within = omega arith;
@@ -49,7 +49,7 @@ full xs i p q lt short way e ends last = record {
   stops = λ _ more. let n : length (take (i + 1) xs) ≡ i + 1 = length-take-le (i + 1) xs (omega arith) in cannot_end reads_monikers (take (i + 1) xs) q (one_more next Start xs i p (Some q) lt way.leads e) ends (omega arith) more;
 }
 
--- the next byte leads on
+-- Where the next byte leads on, one byte more is under way.
 pub further : (xs : List ℕ) (i : ℕ) (p q : MonikerState) → i < length xs → IsUnderWay xs i p → next p (get_or xs i 0) ≡ Some q → (may_end q ≡ false → i + 1 < 4096) → IsUnderWay xs (i + 1) q
 further xs i p q lt way e room =
     record { leads = one_more next Start xs i p (Some q) lt way.leads e; room = room }

@@ -39,11 +39,11 @@ one : {P : Type 0} (next : P → ℕ → Option P) (p : P) (b : ℕ) (o : Option
 one {P} next p b o e =
     ap (λ r. elim r as (λ _. Option P) [ None ↦ None | Some q ↦ Some q ]) e ∙ elim o as (λ r. elim r as (λ _. Option P) [ None ↦ None | Some q ↦ Some q ] ≡ r) [ None ↦ refl | Some q ↦ refl ]
 
--- one byte more in front
+-- The state behind bytes, where the first leads on, is the state behind the others from there.
 pub state_after-cons : {P : Type 0} (next : P → ℕ → Option P) (p q : P) (b : ℕ) (bs : List ℕ) → next p b ≡ Some q → state_after next p (b ∷ bs) ≡ state_after next q bs
 state_after-cons next p q b bs e = state_after-append next p q (b ∷ []) bs (one next p b (Some q) e)
 
--- one byte more behind
+-- The state behind one byte more is the next of the state before.
 pub one_more : {P : Type 0} (next : P → ℕ → Option P) (start : P) (xs : List ℕ) (i : ℕ) (p : P) (o : Option P) → i < length xs → state_after next start (take i xs) ≡ Some p → next p (get_or xs i 0) ≡ o → state_after next start (take (i + 1) xs) ≡ o
 one_more next start xs i p o lt h e =
     ap (state_after next start) (take_more xs i 0 lt) ∙ state_after-append next start p (take i xs) (get_or xs i 0 ∷ []) h ∙ one next p (get_or xs i 0) o e
@@ -55,12 +55,12 @@ pub accepts_from : {P : Type 0} {next : P → ℕ → Option P} {may_end : P →
 accepts_from {P} {next} {may_end} p q xs ys h rest =
     record { last = rest.last; leads = state_after-append next p q xs ys h ∙ rest.leads; ends = rest.ends }
 
--- and what it leaves of an accepted text
+-- What a prefix leaves of an accepted text is accepted from the state behind the prefix.
 pub accepts_rest : {P : Type 0} {next : P → ℕ → Option P} {may_end : P → Bool} (p q : P) (xs ys : List ℕ) → state_after next p xs ≡ Some q → Accepts next may_end p (xs ++ ys) → Accepts next may_end q ys
 accepts_rest {P} {next} {may_end} p q xs ys h whole =
     record { last = whole.last; leads = sym (state_after-append next p q xs ys h) ∙ whole.leads; ends = whole.ends }
 
--- where no byte is left
+-- Where no byte is left and the rest is accepted, the text may end.
 pub at_end : {P : Type 0} {next : P → ℕ → Option P} {may_end : P → Bool} (p : P) (ys : List ℕ) → length ys ≡ 0 → Accepts next may_end p ys → may_end p ≡ true
 at_end {P} {next} {may_end} p [] n h = let same : p ≡ h.last = cc h.leads in ap may_end same ∙ h.ends
 at_end {P} {next} {may_end} p (y ∷ ys) n h = absurd (omega arith)
@@ -98,7 +98,7 @@ cannot_begin {P} {next} {may_end} {start} {limit} {K} read t h begun =
     let whole = read.accepted (t ++ begun.0) begun.1 in
     none-some whole.last (sym (state_after-stuck next start t begun.0 h) ∙ whole.leads)
 
--- nor is what fills the limit and may not end there
+-- A text that fills the limit and may not end there has no completion.
 pub cannot_end : {P : Type 0} {next : P → ℕ → Option P} {may_end : P → Bool} {start : P} {limit : ℕ} {K : List ℕ → Type 0} → IsReadFrom next may_end start limit K → (t : List ℕ) (p : P) → state_after next start t ≡ Some p → may_end p ≡ false → limit ≤ length t → HasCompletion K t → ⊥
 cannot_end {P} {next} {may_end} {start} {limit} {K} read t p h unfinished full begun =
     let whole = read.accepted (t ++ begun.0) begun.1 in

@@ -72,7 +72,7 @@ contained a b e =
 and_below : (a b : ℕ) → b < 512 → bit_and a b < 512
 and_below a b h = omega (arith, and_le_r a b)
 
--- and the other way round
+-- Bits that contain others have just these in common with them.
 masked : (a b : ℕ) → b < 512 → contains (set_of_bits a) (set_of_bits b) ≡ true → bit_and a b ≡ b
 masked a b below h =
     let h0 = and_parts _ _ h in

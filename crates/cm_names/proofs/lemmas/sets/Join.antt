@@ -9,7 +9,8 @@ join_behind c [] y h = absurd (omega arith)
 join_behind c (x ∷ []) y h = simp append_assoc
 join_behind c (x ∷ z ∷ xs) y h = rw (join_behind c (z ∷ xs) y (omega arith)) (simp append_assoc)
 
--- so far the text, and behind it the separator where a piece stands in front
+-- With the next piece put behind the separator, or at the start with none, the text is that of one piece
+-- more.
 pub joined_more : (c : ℕ) (xs : List (List ℕ)) (i : ℕ) (d y text more : List ℕ) → i < length xs → y ≡ get_or xs i d → text ≡ join_with_byte c (take i xs) → (0 < i → more ≡ text ++ c ∷ []) → (i ≡ 0 → more ≡ text) → more ++ y ≡ join_with_byte c (take (i + 1) xs)
 joined_more c xs zero d y text more lt at so_far next first =
     ap (λ t. t ++ y) (first refl ∙ so_far) ∙ at ∙ sym (ap (join_with_byte c) (take_more xs 0 d lt))

@@ -28,7 +28,7 @@ unfolding rights_of
 rights_of_words [] h = absurd (omega arith)
 rights_of_words (w ∷ ws) h = refl
 
--- one word more
+-- What words from a place on make is what they make with the word at this place first.
 one_word : (ws : List (List ℕ)) (i : ℕ) (d : List ℕ) → i < length ws → rights_behind (take i ws) (drop i ws) ≡ with_word (take i ws) (get_or ws i d) (rights_of_word (get_or ws i d)) (rights_behind (take (i + 1) ws) (drop (i + 1) ws))
 one_word ws i d lt = rw (drop_more ws i d lt) (rw (take_more ws i d lt) refl)
 
@@ -48,7 +48,7 @@ none_left : (ws : List (List ℕ)) → drop (length ws) ws ≡ []
 none_left [] = refl
 none_left (w ∷ ws) = none_left ws
 
--- no word has a fault
+-- Where no word has a fault, the rights of all words are those that were gathered.
 pub all_words : (ws : List (List ℕ)) (i : ℕ) (r : RightSet) → 0 < length ws → i ≡ length ws → with_rights r (rights_behind (take i ws) (drop i ws)) ≡ rights_behind [] ws → Ok r ≡ rights_of ws
 all_words ws i r k e so_far =
     let none : drop i ws ≡ [] = ap (λ n. drop n ws) e ∙ none_left ws in

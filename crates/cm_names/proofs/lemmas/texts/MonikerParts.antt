@@ -173,7 +173,7 @@ writes_its_text_lem m names = record { names = names; written = inl refl }
 
 -- ---- reading
 
--- no slash stands in front
+-- A text with no slash in front is left whole where a slash in front is left out.
 pub unslashed : (t : List ℕ) → ((rest : List ℕ) → t ≢ 47 ∷ rest) → t ≡ behind_slash t
 unslashed [] h = refl
 unslashed (b ∷ bs) h =
@@ -206,7 +206,7 @@ pieces_by t (c ∷ cs) h dot slash =
 pub pieces : (t : List ℕ) → IsMonikerText t → t ≢ codes "." → t ≢ codes "/" → All IsChildText (parts_of (behind_slash t))
 pieces t h dot slash = pieces_by t h.0.parts h.1 dot slash
 
--- one piece more is read
+-- With one piece more that was read, the names' texts are the pieces up to it.
 pub texts_more : (texts : List (List ℕ)) (cs : List ChildName) (c : ChildName) (i : ℕ) (t d : List ℕ) → i < length texts → t ≡ get_or texts i d → child_text c ≡ t → map child_text cs ≡ take i texts → map child_text (cs ++ c ∷ []) ≡ take (i + 1) texts
 texts_more texts cs c i t d lt at e so_far =
     map-append child_text cs (c ∷ []) ∙ ap (λ ts. ts ++ child_text c ∷ []) so_far ∙ ap (λ s. take i texts ++ s ∷ []) (e ∙ at) ∙ sym (take_more texts i d lt)

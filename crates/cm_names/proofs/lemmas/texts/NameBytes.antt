@@ -28,7 +28,7 @@ begun_name b bs n begins count fits =
 to_end : (t : List ℕ) (n : ℕ) → n ≤ length t → take (length t - n) (drop n t) ≡ drop n t
 to_end t n le = take_all (length t - n) (drop n t) (omega (arith, length-drop n t))
 
--- so do these first bytes of some
+-- The first bytes of a text that begin and go on as a name, at most 255 of them, are a name.
 pub prefix_name : (t : List ℕ) (n d : ℕ) → 1 ≤ length t → IsTrue (begins_name (get_or t 0 d))
     → n ≡ length (take_while continues_name (take (length t - 1) (drop 1 t))) → n + 1 ≤ 255 → IsName (take (n + 1) t)
 prefix_name [] n d some begins count fits = absurd (omega arith)
@@ -37,7 +37,7 @@ prefix_name (b ∷ bs) n d some begins count fits =
     let behind = count ∙ ap (λ r. length (take_while continues_name r)) (to_end (b ∷ bs) 1 some) in
     subst (λ k. IsName (take k (b ∷ bs))) next (begun_name b bs n begins behind fits)
 
--- with what stands behind them they are all bytes
+-- The first bytes that go on as a name and what stands behind them are the whole text.
 pub cut_prefix : (t : List ℕ) (n : ℕ) → 1 ≤ length t → n ≡ length (take_while continues_name (take (length t - 1) (drop 1 t)))
     → t ≡ take (n + 1) t ++ take (length t - (n + 1)) (drop (n + 1) t)
 cut_prefix t n some count =

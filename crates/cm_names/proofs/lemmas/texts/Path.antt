@@ -55,7 +55,7 @@ faulty_part place xs i e at f = more_parts place xs i (Some e) at f
 pub good_part : (place : ℕ) (xs : List ℕ) (i : ℕ) → position is_slash xs ≡ Some i → None ≡ part_fault place (take i xs) → parts_fault place xs ≡ parts_fault (place + i + 1) (drop (i + 1) xs)
 good_part place xs i at f = more_parts place xs i None at f
 
--- the place behind a slash
+-- The place behind a byte is what the whole is without what stands behind it.
 pub behind : (place whole i : ℕ) (xs : List ℕ) → i < length xs → place + length xs ≡ whole → place + i + 1 + length (drop (i + 1) xs) ≡ whole
 behind place whole i xs lt e = rw (length-drop (i + 1) xs) (omega arith)
 

@@ -4,7 +4,7 @@ use Rattle.std.proofs.lemmas.List.{length-append, length-drop, take_at}
 use Rattle.std.proofs.lemmas.Slice.{take-put_mid}
 use borrow.Rule.Slice.PartMut.{mid_len, put_mid, same_len_mid}
 
--- it begins with both
+-- What two texts are put into begins with both.
 pub both-put : (prefix back rest : List ℕ) (k : ℕ)
     → take (length prefix + length back) (put_mid (length prefix) k (prefix ++ rest) back) ≡ prefix ++ back
 both-put prefix back rest k =
@@ -12,7 +12,7 @@ both-put prefix back rest k =
     take-put_mid (length prefix) k (prefix ++ rest) back _ refl (omega arith)
     ∙ ap (λ l. l ++ back) (take_at prefix rest (length prefix) refl)
 
--- and is as long as it was
+-- What is put into the midst of a room leaves the room as long as it was.
 pub room-stays : (prefix back room : List ℕ) (n : ℕ) → length room ≡ n → length prefix + length back ≤ n
     → length (put_mid (length prefix) (length prefix + length back - length prefix)
     (prefix ++ drop (length prefix) room) back) ≡ n

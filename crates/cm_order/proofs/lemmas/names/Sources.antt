@@ -36,7 +36,7 @@ clients_on a b c first second x z there = second x z (first x z there)
 
 -- ---- one after another
 
--- some were looked at
+-- Of items that were looked at, all sources are put in, and nothing was taken out.
 pub record IsPutting {A : Type 0} (p : ℕ) (comes_from : ℕ → A → Bool) (xs : List A) (w : ℕ) (old new : BTreeMap ℕ (List ℕ)) : Type 0 where
   pub all : HasSources p comes_from xs (λ x. is_client new x w)
   pub kept : ClientsGrow old new

@@ -95,7 +95,7 @@ last_stand rows top old rest s split all =
 pub one_more : (rows : List Row) (top : ℕ) (old new : List Stand) (s : Stand) → new ≡ old ++ s ∷ [] → IsDescent rows top old → IsStand rows top s → IsDescent rows top new
 one_more rows top old new s pushed all here = subst (IsDescent rows top) (sym pushed) (each_join (IsStand rows top) old (s ∷ []) all (here, tt))
 
--- a level that wasn't looked at
+-- A stand at an instance of which nothing was looked at yet.
 abbrev pub fresh : ℕ → Stand
 fresh inc = record { inc = inc; done = None; below_shut = false }
 
@@ -123,14 +123,14 @@ looked_at rows top old rest new s t split all same known pushed =
     let parts : IsDescent rows top rest × IsStand rows top s = last_stand rows top old rest s split all in
     one_more rows top rest new t pushed parts.0 (record { reached = subst (IsFreeOnTheWay rows top) (sym same) parts.1.reached; known = known })
 
--- and the way goes on to the child that was found
+-- A way goes on to the child that the look at its last level found.
 pub gone_on : (rows : List Row) (next : ℕ) (orderly : IsOrderly rows next) (top : ℕ) (old rest way new : List Stand) (s t : Stand) (c : ℕ) (seen : VisitResult) → old ≡ rest ++ s ∷ [] → IsDescent rows top old → IsDescent rows top way → IsGlance rows s.inc seen → seen ≡ Below (Some c) → t ≡ fresh c → new ≡ way ++ t ∷ [] → IsDescent rows top new
 gone_on rows next orderly top old rest way new s t c seen split all so_far glance is new_one pushed =
     let parts : IsDescent rows top rest × IsStand rows top s = last_stand rows top old rest s split all in
     let chosen : IsFreeKid rows s.inc c = subst (IsGlance rows s.inc) is glance in
     one_more rows top way new t pushed so_far (unknown rows top c t new_one (reached_kid rows next orderly top s.inc c parts.1.reached chosen))
 
--- a plan whose way was lengthened
+-- A plan whose way alone was made anew, and is one from the top, is still a plan.
 pub way_changed : (rows : List Row) (old new : DescentPlan) (top : ℕ) → IsPlan rows old → old.top ≡ top → new.top ≡ old.top → new.others ≡ old.others → IsDescent rows top new.way.items → AreKnown rows new.levels → IsPlan rows new
 way_changed rows old new top it own same others way levels = record {
   way = subst (λ t. IsDescent rows t new.way.items) (sym (same ∙ own)) way;
@@ -153,7 +153,7 @@ closing_on rows next orderly plan k s i it lt is own closing =
     closing_below rows next orderly plan.top i closing
     (subst (λ n. IsTrue (is_below rows plan.top n)) (ap (λ (z : Stand). z.inc) (sym is) ∙ own) stand.reached.below)
 
--- and what is known of it holds
+-- What a plan tells of a place of its way, that all below it is shut, holds.
 pub kids_on : (rows : List Row) (plan : DescentPlan) (k : ℕ) (s : Stand) (i : ℕ) → IsPlan rows plan → k < length plan.way.items → s ≡ get_or plan.way.items k s → s.inc ≡ i → IsTrue s.below_shut → AreKidsShut rows i
 kids_on rows plan k s i it lt is own known =
     let stand : IsStand rows plan.top (get_or plan.way.items k s) = stand_at rows plan.top plan.way.items k s it.way lt in

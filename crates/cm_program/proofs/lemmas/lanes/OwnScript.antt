@@ -18,7 +18,7 @@ turns_fit : (j : ℕ) (cs : List Command) → All IsFit (in_turns j cs)
 turns_fit j [] = All-nil IsFit
 turns_fit j (c ∷ cs) = All-cons IsFit (record { line = 0; lane = j % 4; command = c }) (in_turns (j + 1) cs) (record { lane = lane_low j }) (turns_fit (j + 1) cs)
 
--- so that what it asks for can be performed
+-- What the lines of a workload ask for can be performed.
 pub own_fit : (g n : ℕ) (served : LoadedScript) → served_script (script_of g n) ≡ Ok served → All (λ lines. All IsFit lines) served.phases
 own_fit g n served is =
     subst (All (λ lines. All IsFit lines)) (sym (phases_of_script (script_of g n) served is))

@@ -72,7 +72,7 @@ results_all (p ∷ ps) =
 abbrev NoWant : Said → Type 0
 NoWant s = s.result ≢ Err refusal.Memory
 
--- so are those of which none is out of memory
+-- Answers of which none is for lack of memory had memory.
 no_want_phase : (answered : List AnsweredLine) → All NoWant (map said_of answered) → All AnsweredWithMemory answered
 no_want_phase [] none = All-nil AnsweredWithMemory
 no_want_phase (a ∷ others_answered) none = All-cons AnsweredWithMemory a others_answered (All-head NoWant (said_of a) (map said_of others_answered) none) (no_want_phase others_answered (All-tail NoWant (said_of a) (map said_of others_answered) none))

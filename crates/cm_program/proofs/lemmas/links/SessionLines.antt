@@ -41,7 +41,7 @@ before_all (x ∷ xs) none =
     before_other x xs (All-head (λ (t : TextBytes). t ≢ quit) x xs none)
     ∙ ap (λ (l : List TextBytes). x ∷ l) (before_all xs (All-tail (λ (t : TextBytes). t ≢ quit) x xs none))
 
--- nothing behind `quit` does
+-- Of lines that begin with `quit` none is before it.
 before_quitted : (rest : List TextBytes) → before_quit (quit ∷ rest) ≡ []
 before_quitted rest = ap (λ (b : Bool). cond b [] (quit ∷ before_quit rest)) ((bytes_eq-Decides quit quit).1 refl)
 

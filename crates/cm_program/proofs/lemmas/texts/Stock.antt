@@ -151,7 +151,7 @@ served_tells bytes served is =
       phases = subst (All AreWritableLines) (sym (phases_of_script is.script served is.asks)) fit.phases;
     }
 
--- the same of what a script gave
+-- The lines of a script that was read can be performed.
 pub fit_of_script : (bytes : List ℕ) (s : Script) (r : ReadOutcome LoadedScript) → IsScript bytes s → GivesOutcome r (served_script s) → IfOk r (λ served. All (λ lines. All IsFit lines) served.phases)
 fit_of_script bytes s (Ok served) h gives = served_fit bytes served (record { script = s; reads = h; asks = gives })
 fit_of_script bytes s (Err e) h gives = tt

@@ -95,7 +95,7 @@ failure_is kind.Stop a outcome.Declined h = refl
 failure_is kind.Stop a outcome.GateFailed h = absurd (cc h)
 failure_is kind.Stop a outcome.Full h = refl
 
--- what an action came to
+-- What an action came to blames no failed gate.
 abbrev OfActed : Result ActionResult Refusal → Type 0
 OfActed (Ok (acted.Ended k a o)) = IsFalse (is_failed o)
 OfActed (Ok (acted.Quiet r)) = IsTrue (is_quiet r)
@@ -229,7 +229,7 @@ decision_is : (r : Reply) → IsUnfailing (decision r)
 decision_is (reply.Listed kids) = tt
 decision_is _ = tt
 
--- what an action comes to
+-- What an action came to is an unfailing answer, where what it was answered blames no gate.
 acted_is : (made : Option ℕ → Outcome → Answer) → ((a : Option ℕ) (o : Outcome) → IsFalse (is_failed o) → IsUnfailingAnswer (made a o)) → (went : Result ActionResult Refusal) → OfActed went → IsUnfailing (acted_answer made went)
 acted_is made each (Ok (acted.Ended k a o)) h = by (failure k a o) (failure_is k a o h)
   where

@@ -29,7 +29,7 @@ audited_whole prefix rest line status all h = by (either (length prefix) journal
     by (inl short) = subst (λ bytes. IsJournalVerdict bytes status line) (sym (ap (λ r. prefix ++ r) (all short) ∙ append-nil prefix)) h
     by (inr far) = verdict_whole prefix rest line status far h
 
--- so it is known of all that the source had left
+-- A verdict on what was read is one on all that the source had left, where it tells that.
 pub audited_some : (old new : Option (List ℕ)) (prefix line : List ℕ) (status : ℕ) → Consumes old new prefix → (length prefix ≤ journal_limit → IsAtEnd new) → IsJournalVerdict prefix status line → OfSome (λ bytes. IsJournalVerdict bytes status line) old
 audited_some None new prefix line status gone all h = (prefix, h)
 audited_some (Some whole) None prefix line status gone all h = absurd gone

@@ -82,7 +82,8 @@ too_far size place t ts e far h p =
     let none : total ts ≡ 0 = ap total e in
     let all : size ≤ place + (length t + 1 + total ts) = h in omega (arith, far, all, p, none)
 
--- A line that fits in a text which passes the limit by far ends within it, and fits in a longer one.
+-- A line that fits in a text which passes the limit by far ends within the limit, and fits in a text of any
+-- size.
 fits_on : (size more place : ℕ) (t : List ℕ) → script_limit + 65537 < size → Fits size place t → (place + length t + 1 ≤ script_limit) × Fits more place t
 fits_on size more place t far fits = by (ends_within size (place + length t + 1) script_limit fits.script)
   where

@@ -94,5 +94,5 @@ module _ {E : Type 0} (written_of : E → Option (List ℕ)) (faults_of : E → 
   says_of_run status (inr (inl four)) wants keeps = says_nothing status (inr (inr four)) (keeps (inr four))
   says_of_run status (inr (inr six)) wants keeps = says_want status six (wants six)
 
--- what is said, by the status
+-- The rules by which search finds what is said on the error stream, by the status.
 pub ruleset says = (says_usage, says_read_fault, says_want, says_door_fault, says_other, says_verdict, says_unwritten, says_of_run)

@@ -59,7 +59,7 @@ length_map : {A B : Type 0} (f : A → B) (xs : List A) → length (map f xs) �
 length_map f [] = refl
 length_map f (x ∷ xs) = ap suc (length_map f xs)
 
--- as many rows as there are values in two lists
+-- Two lists made of values have as many rows together as there are values in both.
 two_lengths : {A B R : Type 0} (f : A → R) (g : B → R) (xs : List A) (ys : List B)
     → length (map f xs ++ map g ys) ≡ length xs + length ys
 two_lengths f g xs ys =
@@ -148,7 +148,7 @@ none_taken f wrap [] h = refl
 none_taken f wrap (x ∷ xs) h =
     ap (λ o. cons_option o (filter_map f (map wrap xs))) (h x) ∙ none_taken f wrap xs h
 
--- what f takes of two lists
+-- What f takes of two lists, one behind the other, is what it takes of each.
 two_taken : {A R : Type 0} (f : R → Option A) (rs qs : List R) (xs ys : List A) → filter_map f rs ≡ xs → filter_map f qs ≡ ys
     → filter_map f (rs ++ qs) ≡ xs ++ ys
 two_taken f rs qs xs ys e g = filter_map-append f rs qs ∙ ap (λ t. t ++ filter_map f qs) e ∙ ap (λ t. xs ++ t) g

@@ -299,7 +299,7 @@ decl_is_shallow d = omega (arith, (decl_plain d).shallow)
 pub text_is : (d : Decl) (v : Data) (text : List ℕ) → v ≡ decl_data d → (has_float v ≡ false → text ≡ compact_text v) → text ≡ decl_text d
 text_is d v text e h = h (ap has_float e ∙ decl_has_no_float d) ∙ ap compact_text e
 
--- and it is read back, where it reads as the value
+-- The text of a declaration is read back as the declaration, where it reads as its value.
 pub text_reads_back : (d : Decl) (v : Data) (text : List ℕ) → v ≡ decl_data d → (depth v ≤ max_depth → json.read text ≡ Some v) → IsReadable d → decl_of_json text ≡ Ok d
 text_reads_back d v text e h readable =
     let not_deep : depth v ≤ max_depth = subst (λ w. depth w ≤ max_depth) (sym e) (decl_is_shallow d) in

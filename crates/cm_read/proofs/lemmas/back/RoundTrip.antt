@@ -94,7 +94,7 @@ rows_before read write wrap IsRow (x ∷ xs) rest others at one h behind =
     rw (one at x (h 0 x (omega arith)))
     (rw (rows_before read write wrap IsRow xs rest others (next at) one (λ k d lt. h (suc k) d (omega arith)) behind) refl)
 
--- and the last ones
+-- The rows that are written last are read back as those rows.
 pub rows_last : {A R : Type 0} (read : ItemPlace → Data → ReadResult (List R)) (write : A → Data) (wrap : A → R) (IsRow : A → Type 0)
     (rows : List A) (at : ItemPlace) → ((at : ItemPlace) (x : A) → IsRow x → read at (write x) ≡ Ok (wrap x ∷ [])) → All IsRow rows
     → rows_at read at (items_of (map write rows)) ≡ Ok (map wrap rows)

@@ -235,10 +235,10 @@ pub text_row : decl_of_bytes (codes "{facets:'" ++ (195 ∷ 169 ∷ codes "'}"))
 unfolding read_on_literals
 text_row = refl
 
--- too many bytes
+-- A manifest with too many bytes has fault 41.
 pub is_too_large : (bytes : List ℕ) → nat_lt 1048576 (length bytes) ≡ true → decl_of_bytes bytes ≡ Err (bad (start section.Manifest) 41 [])
 is_too_large bytes h = rw h refl
 
--- too many rows
+-- A section with too many rows has fault 43.
 pub has_too_many_rows : {A : Type 0} (read : ItemPlace → Data → ReadResult (List A)) (s : Section) (items : Items) (rows : List A) → rows_at read (start s) items ≡ Ok rows → nat_le (length rows) 16384 ≡ false → section_at read s (Some (array items)) ≡ Err (bad (start s) 43 [])
 has_too_many_rows read s items rows e h = rw e (rw h refl)

@@ -304,7 +304,7 @@ no_field at (object ms) all known k u out o e =
 
 -- ---- what offers and exposes have in common
 
--- a field that a protocol has not
+-- A field that isn't there in a protocol is read as one that its kind may have.
 may_have : {A : Type 0} {P : A → Type 0} (k : Kind) (o : Option Data) (read : Data → ReadResult A) → (k ≡ kind.Protocol → o ≡ None) → ((d : Data) → Reads P (read d)) → Reads (λ x. MayHave k x P) (if_there o read)
 may_have {A} {P} kind.Protocol o read h f = by o (h refl)
   where

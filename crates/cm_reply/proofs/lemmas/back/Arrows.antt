@@ -24,7 +24,7 @@ occurs t rest i e =
     let long : i + 4 ≤ length t = omega (arith, ap length e, length-drop i t, length-append arrow rest) in
     OccursAt-from_part t arrow i long (ap (take 4) e)
 
--- the last arrow parts the line
+-- The last arrow that is found parts a line into what stands before it and what stands behind it.
 pub cut_last : (t : TextBytes) (k : ℕ) → FindsLastNeedle t arrow (Some k) → IsCutAtLast t (take k t) (drop (k + 4) t)
 cut_last t k h =
     let fits : k + 4 ≤ length t = h.1.fits in

@@ -35,7 +35,7 @@ line_is : (i : ℕ) (coll name url : TextBytes) (gives : List Give) → codes "c
 line_is i coll name url gives =
     rw (joined_is (codes "create") (target_text (Inc i) ∷ coll ∷ name ∷ url ∷ flat_map give_words gives)) (simp append_assoc)
 
--- its line asks for that
+-- The line that tells of a creation is the text of the command that asks for it.
 pub told_created : (rest : TextBytes) (x : Told word.Create) → IsLegible (event_of word.Create x) → rest ≡ told_text word.Create x → CommandText (codes "create @" ++ rest) (command_of x)
 told_created rest x is e =
     subst (λ t. CommandText t (command_of x)) (sym (ap (λ t. codes "create @" ++ t) e ∙ line_is x.0 x.1.0 x.1.1.0 x.1.1.1.0 x.1.1.1.1)) (writes_its_line_lem (command_of x) is)
@@ -44,7 +44,7 @@ told_created rest x is e =
 pub not_memory : (f : CommandFault) (n : ℕ) → f ≡ command_fault.BadCommand n → f ≡ command_fault.Memory → ⊥
 not_memory f n bad memory = let both : command_fault.BadCommand n ≡ command_fault.Memory = sym bad ∙ memory in absurd (cc both)
 
--- and what is asked for so is legible
+-- A creation that a legible command asks for is legible.
 pub created_legible : (t : TextBytes) (i : ℕ) (coll name url : TextBytes) (gives : List Give) → CommandText t (command.Create (Inc i) coll name url gives) → IsLegible (event.Create i coll name url gives)
 created_legible t i coll name url gives is = what_is_read_lem t (command.Create (Inc i) coll name url gives) is
 
@@ -54,7 +54,7 @@ created_is_legible t parent coll name url gives (Err f) h said = tt
 created_is_legible t parent coll name url gives (Ok e) h said =
     subst IsLegible (sym h.event) (created_legible t h.inc coll name url gives (subst (λ a. CommandText t (command.Create a coll name url gives)) h.by_number said))
 
--- and it is the event that the text was written for
+-- The event that a command's text was written for is the creation that is found.
 pub created_found : (parent : Target) (coll name url : TextBytes) (gives : List Give) (result : Result Event EntryFault) (x : Told word.Create) → MatchResult result (IsCreatedIn parent coll name url gives) (λ f. (i : ℕ) → parent ≡ Inc i → ⊥) → command.Create parent coll name url gives ≡ command_of x → IsOr result (event_of word.Create x)
 created_found parent coll name url gives (Err f) x h same = let by_number : parent ≡ Inc x.0 = cc same in absurd (h x.0 by_number)
 created_found parent coll name url gives (Ok e) x h same = cc (h.event, h.by_number, same)

@@ -39,7 +39,7 @@ word_faults P t word_fault.Memory g is h e = e
 
 -- ---- cuts
 
--- where a text is cut at the first separator
+-- A text is cut in one way at its first separator.
 pub cut_once : (k : ℕ) (a b x y : List ℕ) → Lacks k a → Lacks k b → a ++ k ∷ x ≡ b ++ k ∷ y → (a ≡ b) × (x ≡ y)
 cut_once k a b x y la lb e =
     let l : slice_split (λ c. c == k) (a ++ k ∷ x) ≡ a ∷ slice_split (λ c. c == k) x = slice_split_at (λ c. c == k) a k x la (eq_self k) in
@@ -67,7 +67,7 @@ digits_lack n small = decimal_lacks (decimal n) (decimal_is n small).0
 pub word_is : (t w v more x : List ℕ) → Lacks 32 v → Lacks 32 w → t ≡ w ++ 32 ∷ more → t ≡ v ++ 32 ∷ x → (w ≡ v) × (more ≡ x)
 word_is t w v more x other clean whole e = cut_once 32 w v more x clean other (sym whole ∙ e)
 
--- the same of what was cut
+-- A text that was cut at its first space is parted into the word before it and the rest, and in no other way.
 pub word_cut : (o : Option (Bor (List ℕ))) (r : Bor (List ℕ)) (t w v x : List ℕ) → o ≡ Some r → IsCut 32 t w o → Lacks 32 w → Lacks 32 v → t ≡ v ++ 32 ∷ x → (w ≡ v) × (r.now ≡ x)
 word_cut o r t w v x is cut clean other e = word_is t w v r.now x other clean (piece_and_rest 32 o r t w is cut) e
 

@@ -366,7 +366,7 @@ decl_utf8 d h = text_utf8 (decl_data d) (decl_texts d h)
 pub decl_one : (t : List ℕ) (d e : Decl) → decl_of_json t ≡ Ok d → IsReadable e → t ≡ decl_text e → d ≡ e
 decl_one t d e read is same = let both : Ok d ≡ Ok e = sym read ∙ ap decl_of_json same ∙ texts_are_read_back_lem e is in cc both
 
--- its reader has no fault
+-- The reader of an entry's declaration has no fault but lack of memory, where the text is one of its own.
 pub decl_faults : (t : List ℕ) (f : ReadFault) (g : EntryFault) (e : Decl) → FailsReading f (decl_of_json t) → g ≡ decl_fault f → IsReadable e → t ≡ decl_text e → g ≡ entry_fault.Memory
 decl_faults t (read_fault.Bad n s i field) g e fails same is text =
     let both : Err (read_fault.Bad n s i field) ≡ Ok e = sym fails ∙ ap decl_of_json text ∙ texts_are_read_back_lem e is in absurd (cc both)

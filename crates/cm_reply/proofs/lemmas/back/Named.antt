@@ -188,7 +188,7 @@ invalid_is outcome.Full rest e = absurd (true≢false (ap (has_at 0 105) e))
 invalid_is outcome.NoMemory rest e = absurd (true≢false (ap (has_at 0 105) e))
 invalid_is (outcome.Invalid note) rest e = record { note = note; outcome = refl; text = ap (drop 8) e }
 
--- and one that doesn't has none
+-- An outcome whose text doesn't begin with `invalid` is a plain one.
 pub plain_is : (o : Outcome) (t : List ℕ) → ((rest : List ℕ) → t ≡ codes "invalid " ++ rest → ⊥) → t ≡ outcome_text o → IsPlain o
 plain_is (outcome.Invalid note) t none e = absurd (none (note_words note) e)
 plain_is outcome.Resolved t none e = tt
@@ -230,7 +230,7 @@ pub resolved_is : (f : Finish) (rest : List ℕ) → codes "resolved " ++ rest �
 resolved_is (finish.Resolved u d) rest e = record { url = u; decl = d; finish = refl; text = ap (drop 9) e }
 resolved_is (finish.Other o) rest e = absurd (resolved_no_outcome o rest (sym e))
 
--- and one that doesn't is an outcome
+-- An end that brings no declaration is told by its outcome's text.
 pub record IsEndedSo (f : Finish) (t : List ℕ) : Type 0 where
   pub outcome : Outcome
   pub finish : f ≡ finish.Other outcome

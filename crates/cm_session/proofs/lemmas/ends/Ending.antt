@@ -68,7 +68,7 @@ new_or door o (suc n) c d lt =
     let is : n ≡ c = omega (arith, high, lt) in
     ap (λ k. get_or (prefix ++ last ∷ []) k d) here ∙ (get_or-append_seam prefix last [] d ∙ ap (λ k. new_pass door.lock o k) is))
 
--- the pass at a place
+-- The pass at a place of a new door's passes is the new one of that number.
 pub new_at : (door : LockView) (o : Opening) (n c : ℕ) (d : DoorPass) → slice_get (new_passes door.lock o n) c ≡ Some d → d ≡ new_pass door.lock o c
 new_at door o n c d there = sym (get_or_from_slice_get (new_passes door.lock o n) c d d there) ∙ new_or door o n c d (subst (λ (k : ℕ). c < k) (new_length door o n) (slice_get_within (new_passes door.lock o n) c d there))
 

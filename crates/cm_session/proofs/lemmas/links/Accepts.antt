@@ -73,7 +73,7 @@ given_by (Some accept.Closed) = 0
 given_by (Some accept.Failed) = 0
 given_by None = 0
 
--- so many it counts among the pass's own entries
+-- A turn counts as many links among the pass's own entries as it was given.
 pub counts_given : {L : Type 0} (p q : DoorPass) (a : Option (Accept L)) → TakesTurn p q a → links_of q.mine ≡ links_of p.mine + given_by a
 counts_given p q (Some (accept.Link l)) turn = ap links_of turn.made ∙ (with_link p.mine p.caller).links_are
 counts_given p q (Some accept.Closed) turn = ap links_of turn.made ∙ (with_closing p.mine p.caller).links_are
@@ -90,7 +90,7 @@ pub over_found : {L : Type 0} (w sessions : ℕ) (found left : List Accepted) (a
 over_found w sessions found left (Some a) is none = absurd (cc none)
 over_found w sessions found left None is none = subst (IsDoorDone sessions) (sym is.0) is.1
 
--- a whole turn
+-- A worker's whole turn at the door, by what it found there and what it left.
 pub turn_taken : {L : Type 0} (p q : DoorPass) (o : Opening) (found left : List Accepted) (a : Option (Accept L)) → p.frame ≡ Some o → TurnedBy p.caller o.sessions found left a → links_of left ≤ o.sessions → IsLater p q → q.seen ≡ left → IsOwn (λ (e : Accepted). e.worker) q → ((es : List Accepted) → left ≡ found ++ es → q.mine ≡ p.mine ++ es) → TakesTurn p q a
 turn_taken p q o found left a framed turned few same seen own grows =
     let sessions : sessions_of q ≡ o.sessions = ap sessions_in (same.frame ∙ framed) in

@@ -22,11 +22,11 @@ abbrev pub count_from : ℕ → ℕ → List Accepted → ℕ
 count_from k zero es = 0
 count_from k (suc n) es = links_of (by_worker k es) + count_from (k + 1) n es
 
--- an entry of another worker
+-- An entry of another worker isn't among those of this one.
 by_other : (k : ℕ) (e : Accepted) (es : List Accepted) → e.worker ≢ k → by_worker k (e ∷ es) ≡ by_worker k es
 by_other k e es other = ap (λ (b : Bool). cond b (e ∷ by_worker k es) (by_worker k es)) (ne_eqb e.worker k other)
 
--- an entry of this worker
+-- An entry of this worker stands before its others.
 by_this : (k : ℕ) (e : Accepted) (es : List Accepted) → e.worker ≡ k → by_worker k (e ∷ es) ≡ e ∷ by_worker k es
 by_this k e es this = ap (λ (b : Bool). cond b (e ∷ by_worker k es) (by_worker k es)) (eq-eqb e.worker k this)
 
@@ -34,7 +34,7 @@ by_this k e es this = ap (λ (b : Bool). cond b (e ∷ by_worker k es) (by_worke
 links_first : (e : Accepted) (es : List Accepted) → links_of (e ∷ es) ≡ links_of (e ∷ []) + links_of es
 links_first e es = count_more is_link (e ∷ []) es
 
--- sums of two counts
+-- Sums of equal counts are equal.
 same_sum : (a a' b b' : ℕ) → a ≡ a' → b ≡ b' → a + b ≡ a' + b'
 same_sum a a' b b' here rest = grind (arith, here, rest)
 

@@ -30,7 +30,7 @@ pub stepped_by : (s t u : CallerView) (before after : Reader) (old new : LinkVie
 stepped_by s t u before after old new end same it =
     subst (λ (m : ManagerView). Stepped m.manifests t.pass u.pass t.gates u.gates before after old new end) same.manager it
 
--- and so is the service of a later link
+-- A service of a link by a caller that stayed the same is one by the caller that began.
 pub link_served_by : {L : Type 0} (view : L → LinkView) (s t u : CallerView) (link : L) (old new : List L) (end : Ended) → IsSameCaller s t
     → ServesLink view t.manager.manifests t.pass u.pass t.gates u.gates link old new end → ServesLink view s.manager.manifests t.pass u.pass t.gates u.gates link old new end
 link_served_by view s t u link old new end same it =

@@ -85,11 +85,11 @@ at-end gone line done reader at unbroken some none over = record {
   over = over;
 }
 
--- all bytes, behind what is gone
+-- Bytes and what was given behind them are what is gone, and then what is held with what was given.
 parted-more : (bytes given held gone : TextBytes) → bytes ≡ gone ++ held → bytes ++ given ≡ gone ++ (held ++ given)
 parted-more bytes given held gone e = ap (λ (l : TextBytes). l ++ given) e ∙ append_assoc gone held given
 
--- behind the end nothing is taken
+-- Where nothing is held and nothing was given, nothing is there to take.
 none-taken : (given held : TextBytes) → held ≡ [] → given ≡ [] → held ++ given ≡ []
 none-taken given held e e' = ap (λ (l : TextBytes). l ++ given) e ∙ e'
 
@@ -128,7 +128,7 @@ cut-begins bytes given before done cut still =
       | inr end ↦ ([], ap lines (whole ∙ ap (λ (l : TextBytes). cut.gone ++ l) (none-taken given before.held end.none (still end.over)) ∙ append-nil cut.gone) ∙ end.all ∙ sym (append-nil done))
     ]
 
--- and they are all lines where nothing else was taken
+-- Where nothing was read at the end and nothing is held, the lines that were taken are all.
 pub cut-end : (bytes given : TextBytes) (before : Reader) (done : List TextBytes) → Cut bytes before done → before.held ++ given ≡ [] → lines (bytes ++ given) ≡ done
 cut-end bytes given before done cut none =
     let whole : bytes ++ given ≡ cut.gone = parted-more bytes given before.held cut.gone cut.parted ∙ ap (λ (l : TextBytes). cut.gone ++ l) none ∙ append-nil cut.gone in
@@ -165,7 +165,7 @@ cut-ended-so-far bytes reader done cut =
       | inr end ↦ inr end.over
     ]
 
--- one line more comes next
+-- With what is read, one line more is cut off, which stands behind those that are done.
 pub cut-next : (bytes given : TextBytes) (before after : Reader) (done : List TextBytes) (line : TextBytes) → Cut bytes before done → (before.over ≡ true → given ≡ [])
     → IsFirstLine (before.held ++ given) after line → (rest : List TextBytes) × (lines (bytes ++ given) ≡ done ++ line ∷ rest)
 cut-next bytes given before after done line cut still first =

@@ -61,7 +61,7 @@ done-append (performed d ∷ xs) ys = ap (λ (l : List Done). d ∷ l) (done-app
 done-append (bad at ∷ xs) ys = done-append xs ys
 done-append (too_long ∷ xs) ys = done-append xs ys
 
--- one line more
+-- What one line did goes on as the commands that were done by it.
 does_follow : (f : Frame) (c : ℕ) (t : LineOutcome) (a b : List Entry) → DoesLine f c t a b → GoesOn f c (done_of (t ∷ [])) a b
 does_follow f c (performed d) a b goes = λ rest end follows. PerformsCommands.performs goes follows
 does_follow f c (bad at) a b same = λ rest end follows. subst (λ (x : List Entry). PerformsCommands f c rest x end) same follows
@@ -80,7 +80,7 @@ goes_more f c told t a b d before does =
 pub goes_none : (f : Frame) (c : ℕ) (a : List Entry) → GoesOn f c (done_of []) a a
 goes_none f c a = λ rest end follows. follows
 
--- all of it
+-- Commands that went on up to the end were performed.
 pub goes_all : (f : Frame) (c : ℕ) (ds : List Done) (a b : List Entry) → GoesOn f c ds a b → PerformsCommands f c ds a b
 goes_all f c ds a b on =
     subst (λ (l : List Done). PerformsCommands f c l a b) (append-nil ds) (on [] b (PerformsCommands.rests (record { grows = starts-refl b; own = refl })))

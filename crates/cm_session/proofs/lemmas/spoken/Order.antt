@@ -76,7 +76,7 @@ has-read replies moves bytes given reader a b hand pulled still none =
 abbrev pub moves_behind : (replies : List TextBytes) (moves : List Move) (a b : Option (List Move)) (given : TextBytes) → HasRead replies moves a b given → List Move
 moves_behind replies moves a b given r = moves ++ map gave r.pieces
 
--- and of one that made a reply
+-- The moves of a session with the reads of a step and with its reply.
 abbrev pub moves_with : (replies : List TextBytes) (moves : List Move) (a b c : Option (List Move)) (given reply : TextBytes) (end : Option Ended) → HasRead replies moves a b given → RepliesInOrder end b c reply → List Move
 moves_with replies moves a b c given reply end r w = (moves ++ map gave r.pieces) ++ map wrote w.pieces
 
@@ -141,10 +141,10 @@ put-ordered end a b x y text p first last puts done = record {
   whole = λ is. subst (WritesPieces text puts.pieces) (done is) puts.are;
 }
 
--- the session ends, whatever was put
+-- Where a session ends, its replies are in order whatever was put, if the put was.
 pub put-last : (e : Ended) (a b x y : Option (List Move)) (text : TextBytes) (p : Put) → a ≡ x → b ≡ y → PutsInOrder x y text p → RepliesInOrder (Some e) a b text
 put-last e a b x y text p first last puts = put-ordered (Some e) a b x y text p first last puts (λ is. absurd (none-some e (sym is)))
 
--- or nothing was
+-- Where nothing was put, a session that ends put its replies in order.
 pub put-none : (e : Ended) (o : Option (List Move)) (text : TextBytes) → RepliesInOrder (Some e) o o text
 put-none e o text = record { pieces = []; came = came-none o; whole = λ is. absurd (none-some e (sym is)) }

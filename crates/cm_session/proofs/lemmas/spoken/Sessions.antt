@@ -88,7 +88,7 @@ same-sink old now then mid text wrote same = subst (λ (s : Side). Appends old s
 breaks-off : (a b c : Option TextBytes) (told : List LineOutcome) (t : LineOutcome) → Appends a b (replies told) → GrowsByPrefix b c (reply_line t) → BreaksOff a c (told ++ t ∷ [])
 breaks-off a b c told t h (n, k) = record { before = told; last = t; all = refl; count = n; wrote = Appends-trans a b c (replies told) (take n (reply_line t)) h k }
 
--- of lines that were ended, or of an end that came
+-- Lines that were taken are whole ones, or the end came behind them.
 ended-by : (bytes : TextBytes) (done : List TextBytes) (over : Bool) (left : Option TextBytes) → (over ≡ true → IsAtEnd left) → BeginsWithBytes (whole_lines bytes) done ⊎ (over ≡ true) → AreEnded bytes done left
 ended-by bytes done over left end (inl begins) = inl begins
 ended-by bytes done over left end (inr is) = inr (end is)
@@ -118,7 +118,7 @@ replies-push xs t = flat_map-append reply_line xs (t ∷ []) ∙ ap (λ (l : Tex
 none-wants : (told : List LineOutcome) → All HadMemory told → OutOfMemoryLast told
 none-wants told none = record { before = told; last = []; told_are = sym (append-nil told); one = omega arith; had_memory = none }
 
--- of the lines before the last none was
+-- Where each line but the last had its memory, a lack of memory comes last.
 last-wants : (told : List LineOutcome) (t : LineOutcome) → All HadMemory told → OutOfMemoryLast (told ++ t ∷ [])
 last-wants told t none = record { before = told; last = t ∷ []; told_are = refl; one = omega arith; had_memory = none }
 
@@ -177,7 +177,7 @@ going-none manifests p g link reader none not = record {
   in_hand = in-hand-none reader none;
 }
 
--- the reads of a step
+-- What a step of a session read comes behind the moves before, and is what it was given.
 reads-of : (manifests : Manifests) (p q r : RealmPass) (g h k : GatesView) (old now then : LinkView) (before after : Reader) (n : ℕ) (e : Option Ended)
     → (go : Going manifests p q g h old now before n) → (s : Stepped manifests q r h k before after now then e) → HasRead (map reply_line go.told) go.moves now.order s.mid s.given
 reads-of manifests p q r g h k old now then before after n e go s =
@@ -533,7 +533,7 @@ line-step manifests p q g h before after old mid new line given end took first o
       (subst (λ (x : AsSink). ServedOrNot manifests p q g h line (record { written = x.written; faults = x.faults; order = mid.order }) (side_of new) end) took.same v);
 }
 
--- no line was served
+-- A step at which no line was served does nothing but read.
 pub silent-step : (manifests : Manifests) (p : RealmPass) (g : GatesView) (before after : Reader) (old new : LinkView) (given : TextBytes) (end : Option Ended)
     → Took before after old new given
     → (IsSilent p p g g (side_with old new.order) (side_of new) → StepBy manifests p p g g (before.held ++ given) after old new.order new end) → Stepped manifests p p g g before after old new end

@@ -135,7 +135,7 @@ served_in_place view manifests p q g h link x now old pushed new n end n_is push
 
 -- ---- by what a turn came to
 
--- a turn that gave this link
+-- A turn that gave a link is the turn with that accept.
 given_link : {L : Type 0} (d e : DoorPass) (a : Option (Accept L)) (l : L) → TakesTurn d e a → a ≡ Some (accept.Link l) → TakesTurn d e (Some (accept.Link l))
 given_link d e a l turn is = subst (λ (x : Option (Accept _)). TakesTurn d e x) is turn
 

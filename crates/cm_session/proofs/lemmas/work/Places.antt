@@ -21,7 +21,7 @@ at_map f xs ys k x is there = ap (λ (l : List _). slice_get l k) (sym is) ∙ s
 pub field_at : {A B : Type 0} (f : A → Option B) (xs : List A) (ys : List B) (k : ℕ) (x : A) (y : B) → map f xs ≡ map Some ys → slice_get xs k ≡ Some x → slice_get ys k ≡ Some y → f x ≡ Some y
 field_at f xs ys k x y is there here = same_Some (f x) (Some y) (sym (at_map f xs (map Some ys) k x is there) ∙ at_map Some ys (map Some ys) k y refl here)
 
--- and the item of the other list, by the field
+-- At a place where a field tells the item of the other list, that item stands there.
 pub item_at : {A B : Type 0} (f : A → Option B) (xs : List A) (ys : List B) (k : ℕ) (x : A) (y : B) → map f xs ≡ map Some ys → slice_get xs k ≡ Some x → f x ≡ Some y → slice_get ys k ≡ Some y
 item_at f xs ys k x y is there here =
     let within : k < length ys = grind (arith, slice_get_within xs k x there, length_by_map f Some xs ys is) in

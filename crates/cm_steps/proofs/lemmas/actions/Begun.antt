@@ -18,7 +18,7 @@ idle_begun rows next i kind work e =
     let it : IsIdle rows next kind work (row_of rows i) = begun_row rows next i kind work e in
     record { row = it.row; lives = it.lives; idle = it.idle; unresolved = it.unresolved }
 
--- and so may a stop of a row that is picked
+-- A row that a stop is picked for is idle.
 pub idle_picked : (rows : List Row) (next target : ℕ) (work : Work) → PicksOn rows next target work → IsIdleAt rows Stop work.inc
 idle_picked rows next target work picks = record { row = picks.row; lives = picks.may.row; idle = picks.may.idle; unresolved = λ e. absurd (cc) }
 

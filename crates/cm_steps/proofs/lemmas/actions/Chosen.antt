@@ -28,7 +28,7 @@ pub this_is : (rows : List Row) (t i : ℕ) (p : Picked) (on : Bool) → p ≡ c
 this_is rows t i p true e it = subst (IsPicked rows t) e it
 this_is rows t i p false e it = subst (IsPicked rows t) e it
 
--- one that may be picked is picked by whether it is on
+-- A row that may be picked is picked by whether it is on.
 pub as_it_is : (rows : List Row) (t i : ℕ) (on : Bool) → on ≡ is_on rows i → MayBePicked rows t i → PicksNow rows t i on
 as_it_is rows t i on e it =
     let now = it.1 in
@@ -39,11 +39,11 @@ as_it_is rows t i on e it =
 pub is_off : (rows : List Row) (t i : ℕ) → PicksNow rows t i false → PicksOff rows t i
 is_off rows t i it = record { undone = it.undone; row = it.row; may = it.may; off = it.state }
 
--- one that is off is shut
+-- A row that is off and is picked is shut: that is the answer for it.
 pub shuts_this : (rows : List Row) (next t i : ℕ) (on : Bool) → on ≡ false → PicksNow rows t i on → AnswersThis rows next t i (pick.Shuts i)
 shuts_this rows next t i on off it = record { answers = is_off rows t i (subst (PicksNow rows t i) off it); this = refl }
 
--- one that is on is to be stopped
+-- A row that is on and is picked is to be stopped: that is the answer for it.
 pub stops_this : (rows : List Row) (next t i : ℕ) (on : Bool) (work : Work) (eager : List ℕ) → on ≡ true → PicksNow rows t i on → eager ≡ [] → ((r : Row) → row_of rows i ≡ Some r → work ≡ program_work rows next r eager) → AnswersThis rows next t i (pick.Stops work)
 stops_this rows next t i on work eager yes_on it none made =
     let now : PicksNow rows t i true = subst (PicksNow rows t i) yes_on it in

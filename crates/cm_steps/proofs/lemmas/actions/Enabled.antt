@@ -38,7 +38,7 @@ true_iff a b e = (λ h. sym e ∙ h, λ h. e ∙ h)
 pub always_so : {P : Type 0} → P → IsTrue true ↔ P
 always_so it = (λ yes. it, λ h. refl)
 
--- the same of another world and another event
+-- What is enabled in one tree is so in the same tree for the same event.
 pub is_so : (v w : World) (caller : ℕ) (e f : Event) (b : Bool) → v ≡ w → e ≡ f → IsTrue b ↔ IsEnabledBut w caller f → IsTrue b ↔ IsEnabledBut v caller e
 is_so v w caller e f b same is h =
     subst (λ x. IsTrue b ↔ IsEnabledBut x caller e) (sym same) (subst (λ x. IsTrue b ↔ IsEnabledBut w caller x) (sym is) h)

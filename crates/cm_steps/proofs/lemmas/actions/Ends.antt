@@ -45,13 +45,13 @@ use Rattle.cm_steps.proofs.lemmas.steps.Telling.{told_none}
 
 -- ---- what it leaves
 
--- the tree behind it
+-- The tree behind an end has its rows, its incarnations, its actions and one entry more as the end says.
 pub after-ended : (w : World) (caller a : ℕ) (f : Finish) (o : Outcome) (x : Act) → act_of w.acts a ≡ Some x → after w (entry_of caller (End a f) (Ended o)) ≡ record w { rows = expired_by o x.inc (rows_by x.inc w.next_inc f o w.rows); next_inc = w.next_inc + added_by f o; acts = ended a o w.acts; entries = w.entries + 1 }
 unfolding after
 after-ended w caller a f o x there =
     ap (λ r. counted (with_end_of w a f o r)) there
 
--- the row of the action
+-- The row of an action that may be ended is the one that it was begun at.
 pub inc-ended : (acts : List Act) (caller a : ℕ) (f : Finish) → (may : MayEnd acts caller a f) → inc_of acts a ≡ may.act.inc
 inc-ended acts caller a f may = ap (λ o. option_map_or (λ x. x.inc) o 0) may.there
 
@@ -61,7 +61,7 @@ inc-ended acts caller a f may = ap (λ o. option_map_or (λ x. x.inc) o 0) may.t
 pub one_left : (acts : List Act) (a : ℕ) (o : Outcome) → option_map_or is_open_resolve (act_of acts a) false ≡ true → count_by is_open_resolve (ended a o acts) + 1 ≡ count_by is_open_resolve acts
 one_left acts a o h = count_one (λ (x : Act). x.action == a) is_open_resolve (put_outcome o) acts (λ x. and_false (same_act x.kind Resolve)) h
 
--- and as many where it wasn't
+-- Where the action that ends was no open resolve, as many of these are left as there were.
 pub same_left : (acts : List Act) (a : ℕ) (o : Outcome) → option_map_or is_open_resolve (act_of acts a) false ≡ false → count_by is_open_resolve (ended a o acts) ≡ count_by is_open_resolve acts
 same_left acts a o h = count_same (λ (x : Act). x.action == a) is_open_resolve (put_outcome o) acts (λ x. and_false (same_act x.kind Resolve)) h
 
@@ -109,7 +109,7 @@ pub record IsEnded (old new : Inside) (caller a i : ℕ) (f : Finish) (o : Outco
   pub plan : IsPlannedBy (is_emptied (End a f) (Ended o) doomed) old.records.plan new.records.plan
   pub last : new.records.last ≡ nothing_told
 
--- then they are the tree that the end leaves
+-- The rows and actions behind an end are those of the tree that the end leaves.
 world_ended : (old new : Inside) (caller a : ℕ) (f : Finish) (o : Outcome) (x : Act) → act_of old.acts.items a ≡ Some x → IsEnded old new caller a x.inc f o → after (world_in old) (entry_of caller (End a f) (Ended o)) ≡ world_in new
 world_ended old new caller a f o x there e =
     let w : World = world_in old in
@@ -127,7 +127,7 @@ world_ended old new caller a f o x there e =
     ∙ ap (λ n. made new.table.rows new.table.next_inc (length new.acts.items) new.acts.items new.joins.items n w.frame) (one_longer _ _ _ e.entries)
     ∙ ap (made new.table.rows new.table.next_inc (length new.acts.items) new.acts.items new.joins.items (length new.records.book.entries)) (sym e.frame)
 
--- and are kept as before
+-- Behind an end what a realm keeps is right, with the answers that are kept.
 pub kept_ended : (old new : Inside) (caller a : ℕ) (f : Finish) (o : Outcome) → (may : MayEnd old.acts.items caller a f) → o ≡ outcome_by old.frame.limits.rows old.table.rows old.table.next_inc f → IsRealmInvariant old → IsEnded old new caller a may.act.inc f o → IsRealmInvariant new
 kept_ended old new caller a f o may named kept e = record {
   stands =

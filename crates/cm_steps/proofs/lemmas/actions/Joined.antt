@@ -10,7 +10,7 @@ longer_by : (b : Bool) (j : Join) (js : List Join) → length js ≤ length (con
 longer_by true j js = omega arith
 longer_by false j js = let l = length-append js (j ∷ []) in omega arith
 
--- none is lost
+-- Where a join is put down, none that was there is lost.
 pub length-joined : (caller a : ℕ) (js : List Join) → length js ≤ length (joined caller a js)
 length-joined caller a js =
     longer_by (list_any (is_join caller a) js) (record { caller = caller; action = a }) js

@@ -57,7 +57,7 @@ others_there xs a all differ k d lt =
       from_one : (j : ℕ) → 1 + j ≡ suc j
       from_one j = omega arith
 
--- where no action has the number
+-- No action has the number 0.
 pub not_zero : (a n : ℕ) → a ≡ 0 → (k : ℕ) → k < n → a ≡ suc k → ⊥
 not_zero a n e k lt same = absurd (omega arith)
 
@@ -65,7 +65,7 @@ not_zero a n e k lt same = absurd (omega arith)
 pub not_above : (a n : ℕ) → n < a → (k : ℕ) → k < n → a ≡ suc k → ⊥
 not_above a n high k lt same = absurd (omega arith)
 
--- where one has it
+-- The action of a number stands at the place of that number less one.
 pub place_of : (xs : List Act) (a : ℕ) → IsNumbered 1 xs → (a ≡ 0 → ⊥) → a ≤ length xs → position (λ (x : Act). x.action == a) xs ≡ Some (a - 1)
 place_of [] a all some le = absurd (some (omega arith))
 place_of (x ∷ xs) a all some le =

@@ -37,24 +37,24 @@ unopened_by false d true x y is = refl
 unopened_by false true false x y is = absurd (true≢false (sym is))
 unopened_by false false false x y is = absurd (true≢false (sym is))
 
--- and nothing an opening by one that is on
+-- Nothing refuses an opening by a client that is ready and on.
 client_free : (rows : List Row) (i : ℕ) → (is_ready rows i && is_on rows i) ≡ true → unopened rows i ≡ None
 client_free rows i is =
     unopened_by (is_gone rows i) (is_resolved rows i) (is_on rows i) (Some (reply.Gone i)) (Some reply.ClientOff) is
 
 -- ---- one who asks
 
--- asks for that use
+-- An event of one who may ask asks for the use at this path of this instance.
 pub asks_for : (k : Asking) (w : World) (i : ℕ) (path : List ℕ) → may_ask k w.rows i ≡ true → asked_by w (event_of k i path) ≡ Some (record { inc = i; path = path })
 asks_for asking.Route w i path may = ap (λ b. asks_if b i path) may
 asks_for asking.Opening w i path may = ap (λ b. asks_if b i path) may
 
--- and one who may not asks for none
+-- An event of one who may not ask asks for no use.
 pub asks_none : (k : Asking) (w : World) (i : ℕ) (path : List ℕ) → may_ask k w.rows i ≡ false → asked_by w (event_of k i path) ≡ None
 asks_none asking.Route w i path may = ap (λ b. asks_if b i path) may
 asks_none asking.Opening w i path may = ap (λ b. asks_if b i path) may
 
--- and gets what is made of the walk
+-- One who may ask gets what is made of the walk.
 pub asks_step : (k : Asking) (w : World) (caller i : ℕ) (path : List ℕ) (v : Walked) → may_ask k w.rows i ≡ true → IsWalked w.rows w.frame.builtins (UseAt i path) v → IsStep w (entry_of caller (event_of k i path) (reply_of k w.rows v))
 asks_step asking.Route w caller i path v may walked = record {
   enabled = tt;
@@ -69,12 +69,12 @@ asks_step asking.Opening w caller i path v may walked = record {
       (sym (client_free w.rows i may)) (v, walked, refl);
 }
 
--- one who may not is told what refuses him
+-- The reply that refuses one who may not ask is a step of the tree.
 pub refused_step : (k : Asking) (w : World) (caller i : ℕ) (path : List ℕ) (r : Reply) → WalksUnless w.rows w.frame.builtins (UseAt i path) (reply_of k w.rows) (refusal_of k w.rows i) r → IsStep w (entry_of caller (event_of k i path) r)
 refused_step asking.Route w caller i path r told = record { enabled = tt; allowed = told }
 refused_step asking.Opening w caller i path r told = record { enabled = tt; allowed = told }
 
--- and asking moves nothing
+-- An event that asks for a use moves nothing, whatever its reply is.
 pub asks_quiet : (k : Asking) (i : ℕ) (path : List ℕ) (r : Reply) → moves (event_of k i path) r ≡ false
 asks_quiet asking.Route i path r = refl
 asks_quiet asking.Opening i path r = refl

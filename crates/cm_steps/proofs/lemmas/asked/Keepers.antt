@@ -39,12 +39,12 @@ increasing_in a stands =
 
 -- ---- what is kept
 
--- nothing beside the empty history
+-- Beside an empty history nothing is held.
 pub beside_new : (f : Frame) (entries : List Entry) (h : CacheContents) → entries ≡ [] → h ≡ nothing_held → IsBeside f entries h
 beside_new f entries h none held =
     subst (IsBeside f entries) (sym held) (subst (λ es. IsBeside f es nothing_held) (sym none) (nothing_at_first f))
 
--- with an entry more that asks for no use
+-- Beside an entry more that asks for no use, what is kept is right.
 pub goes_beside : (a : Inside) (e : Entry) (doomed : Bool) (entries : List Entry) (h : CacheContents) → LeavesTree (story_of a) (world_in a) → IsBeside a.frame a.records.book.entries a.records.keeper → entries ≡ a.records.book.entries ++ e ∷ [] → asked_by (world_in a) e.event ≡ None → IsReported (world_in a) e doomed → h ≡ followed e.event e.reply doomed a.records.keeper → IsBeside a.frame entries h
 unfolding world_of IsLegal
 goes_beside a e doomed entries h stands beside more none told held =
@@ -54,7 +54,7 @@ goes_beside a e doomed entries h stands beside more none told held =
     (subst (λ (w : World). asked_by w e.event ≡ None) (sym stands.world) none)
     (subst (λ (w : World). IsReported w e doomed) (sym stands.world) told) beside))
 
--- with one that asks for a use, whose walk comes to this
+-- Beside an entry more that asks for a use, with what its walk comes to, what is kept is right.
 pub asks_beside : (a : Inside) (e : Entry) (i : ℕ) (path : List ℕ) (v : Walked) (entries : List Entry) (h : CacheContents) → LeavesTree (story_of a) (world_in a) → IsBeside a.frame a.records.book.entries a.records.keeper → entries ≡ a.records.book.entries ++ e ∷ [] → asked_by (world_in a) e.event ≡ Some (record { inc = i; path = path }) → IsWalked a.table.rows a.frame.builtins (UseAt i path) v → h ≡ asked_for i path v a.records.keeper → IsBeside a.frame entries h
 unfolding world_of IsLegal
 asks_beside a e i path v entries h stands beside more asks walked held =

@@ -38,7 +38,7 @@ keeping f light = record {
   valid = λ r d e. inl (sym (light.decl r) ∙ e);
 }
 
--- a change that keeps the marks
+-- A change of a row that keeps its marks keeps what is closing.
 light_closing : (rows : List Row) (next i : ℕ) (f : Row → Row) → IsLight f → IsOrderly rows next → IsTrue (is_closing rows i) → IsTrue (is_closing (changed i f rows) i)
 light_closing rows next i f light was closing =
     let row : (r : Row) × (row_of rows i ≡ Some r) = above_lives (λ r. r.closing) rows i closing in
@@ -50,7 +50,7 @@ not_stopped : (b : Bool) → is_stopped (cond b outcome.Resolved outcome.Full) �
 not_stopped true e = absurd (true≢false (sym e))
 not_stopped false e = absurd (true≢false (sym e))
 
--- the end of a stop
+-- What is closing is closed behind the end of a stop.
 pub still_closed : (limit next i : ℕ) (f : Finish) (o : Outcome) (rows : List Row) → IsOrderly rows next → o ≡ outcome_by limit rows next f → is_stopped o ≡ true → IsTrue (is_closing rows i) → IsTrue (is_closed (rows_by i next f o rows) i)
 still_closed limit next i (finish.Other p) o rows was is stopped closing =
     or_left (is_closing (changed i (end_row o) rows) i) (is_shut (changed i (end_row o) rows) i)

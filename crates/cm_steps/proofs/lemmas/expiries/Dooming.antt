@@ -82,7 +82,7 @@ doomed_there rows i may =
     changed_as set_doomed doomed_if_dynamic i rows
     (λ r lives. goes_if (is_dynamic r && not r.doomed) r (sym (ap (λ o. option_map_or (λ s. is_dynamic s && not s.doomed) o false) lives) ∙ may))
 
--- and where it may not, it stays as it is
+-- Where a row may not go, it isn't marked, and all rows stay as they are.
 pub undoomed_there : (rows : List Row) (i : ℕ) → may_go rows i ≡ false → rows ≡ changed i doomed_if_dynamic rows
 undoomed_there rows i may =
     sym (unchanged i rows)
@@ -103,7 +103,7 @@ open_goes rows i once unclosed is r =
     ap (λ b. cond b false (cond (runs_once rows i) (r.inc == i) (has_parent i r && is_dynamic r))) unclosed
     ∙ ap (λ b. cond b (r.inc == i) (has_parent i r && is_dynamic r)) is
 
--- of a row that runs once, the row itself
+-- Where a test holds, what is marked by it is what is marked where it is true.
 own_first : (d m : Bool) (r : Row) → d ≡ true → cond (true && not m) (set_doomed r) r ≡ cond (d && not m) (set_doomed r) r
 own_first true m r e = refl
 own_first false m r e = absurd (true≢false (sym e))
@@ -301,7 +301,7 @@ children_by : (b : Bool) (p : ℕ) (x : Row) (xs : List Row) → filter_map (doo
 children_by true p x xs later = ap (λ l. x.inc ∷ l) later
 children_by false p x xs later = later
 
--- the doomed children, row by row
+-- What is taken row by row are the doomed children.
 pub all_children : (rows : List Row) (p : ℕ) → filter_map (doomed_child p) rows ≡ doomed_children rows p
 all_children [] p = refl
 all_children (x ∷ xs) p = children_by (has_parent p x && x.doomed) p x xs (all_children xs p)

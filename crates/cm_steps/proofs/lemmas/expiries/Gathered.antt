@@ -29,12 +29,12 @@ lives_at p (x ∷ xs) next i d increasing low = by (p x) refl i low (λ k within
 
 -- ---- a loop over the rows below one
 
--- what is told of one item
+-- What is told of one item alone is what it is told, or nothing.
 pub one_told : {A B : Type 0} (o : Option B) (h : A → Option B) (r : A) → h r ≡ o → filter_map h (r ∷ []) ≡ option_to_list o
 one_told None h r e = rw e refl
 one_told (Some b) h r e = rw e refl
 
--- one row more
+-- With one row more looked at, what was told is that of the rows so far.
 pub told_more : {B : Type 0} (rows : List Row) (next top i inc : ℕ) (h : Row → Option B) (incs : List ℕ) (found : Option B) (seen more : List B) → IsOrderly rows next → i < length incs → inc ≡ get_or incs i 0 → incs ≡ map (λ r. r.inc) (subtree rows top) → ((r : Row) → row_of rows inc ≡ Some r → found ≡ h r) → seen ≡ filter_map h (take i (subtree rows top)) → more ≡ seen ++ option_to_list found → more ≡ filter_map h (take (i + 1) (subtree rows top))
 told_more rows next top i inc h incs found seen more orderly low at is tells so_far pushed =
     let size : length incs ≡ length (subtree rows top) = ap length is ∙ length-map (subtree rows top) (λ r. r.inc) in
@@ -47,7 +47,7 @@ told_more rows next top i inc h incs found seen more orderly low at is tells so_
     ∙ sym (filter_map-append h (take i (subtree rows top)) (get_or (subtree rows top) i (root_row []) ∷ []))
     ∙ sym (ap (filter_map h) (take_more (subtree rows top) i (root_row []) within))
 
--- all of them
+-- Where all rows were looked at, what was told is that of all of them.
 pub told_all : {B : Type 0} (rows : List Row) (top i : ℕ) (h : Row → Option B) (incs : List ℕ) (seen : List B) → length incs ≤ i → incs ≡ map (λ r. r.inc) (subtree rows top) → seen ≡ filter_map h (take i (subtree rows top)) → seen ≡ filter_map h (subtree rows top)
 told_all rows top i h incs seen long is so_far =
     let size : length incs ≡ length (subtree rows top) = ap length is ∙ length-map (subtree rows top) (λ r. r.inc) in

@@ -114,13 +114,13 @@ closed_none rows i closed = sym (none_all rows) where
       ap (λ b. (cond b false (cond (runs_once rows i) (x.inc == i) (has_parent i x && is_dynamic x)) && not x.doomed) || list_any (λ r. goes_with rows i r && not r.doomed) xs) closed
       ∙ none_all xs
 
--- else, of a row that doesn't run once, its children
+-- Where an open row doesn't run once, something goes with it exactly where a child of it does.
 pub children_go : (rows : List Row) (i : ℕ) → is_closed rows i ≡ false → runs_once rows i ≡ false → list_any (λ r. has_parent i r && is_dynamic r && not r.doomed) rows ≡ goes_some rows i
 children_go rows i unclosed once =
     any_as (λ r. has_parent i r && is_dynamic r && not r.doomed) (λ r. goes_with rows i r && not r.doomed)
     (λ r. sym (ap (λ b. b && not r.doomed) (open_goes rows i false unclosed once r))) rows
 
--- and of one that does, the row itself
+-- Where an open row runs once and may go, it goes itself.
 itself_by : (o : Option Row) (rows : List Row) (i : ℕ) → row_of rows i ≡ o → is_closed rows i ≡ false → runs_once rows i ≡ true → option_map_or (λ r. is_dynamic r && not r.doomed) o false ≡ true → true ≡ goes_some rows i
 itself_by None rows i is unclosed once goes = absurd (true≢false (sym goes))
 itself_by (Some r) rows i is unclosed once goes =

@@ -45,7 +45,7 @@ is_lost rows i m r m_is lives =
     ap (λ n. Some (made i n)) m_is
     ∙ ap (λ j. Some (made j (moniker_of rows j))) (sym (row_of-inc rows i r lives))
 
--- all that is removed
+-- All that is removed is told as lost, each by its own row.
 pub lost_all : (rows xs : List Row) → filter_map (lost_row rows) xs ≡ map (lost_of rows) xs
 lost_all rows [] = refl
 lost_all rows (x ∷ xs) = ap (λ l. lost_of rows x ∷ l) (lost_all rows xs)

@@ -27,7 +27,7 @@ use Rattle.cm_steps.specs.declared.replies.creating.CreateAnswer.{CreateAnswer}
 use Rattle.cm_steps.specs.declared.replies.creating.CreateAnswer.TheVariants.{Creates, Quiet}
 use Rattle.cm_laws.proofs.lemmas.sound.Replies.{creating}
 
--- by whether the child may be created, in a tree whose room was told
+-- A create is answered by whether the child may be created, in a tree whose room was told.
 pub creates_by : (limit next free p : ℕ) (rows : List Row) (coll name : List ℕ) (gives : List Give) (may : MayCreate) (answer : CreateAnswer) → ParentsCanTake → TellsRoom limit rows next free → AnswersCreate rows free p coll name gives may → IsAnswerOf may answer → CreatesBy limit rows next p coll name gives answer
 creates_by limit next free p rows coll name gives may Creates law room says is =
     let yes : AnswersCreate rows free p coll name gives Yes = subst (AnswersCreate rows free p coll name gives) is says in

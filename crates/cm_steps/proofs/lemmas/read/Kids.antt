@@ -14,7 +14,7 @@ one_kid : (b : Bool) (h : Child → Option ℕ) (k : Child) → filter_map h (co
 one_kid true h k = one_told (h k) h k refl
 one_kid false h k = refl
 
--- one child more
+-- With one child more, the eager children so far are those of the children so far.
 pub kids_more : (rows : List Row) (i k : ℕ) (kids : List Child) (kid : Child) (found : Option ℕ) (seen more : List ℕ) → k < length kids → kid ≡ get_or kids k kid → found ≡ eager_child rows i kid → seen ≡ eager_kids rows i (take k kids) → more ≡ seen ++ option_to_list found → more ≡ eager_kids rows i (take (k + 1) kids)
 kids_more rows i k kids kid found seen more less at is so_far pushed =
     let h : Child → Option ℕ = λ c. child_of rows i (static_name c.name) in

@@ -101,7 +101,7 @@ idle_answers rows next i kind f a here e idle h =
 
 -- ---- work
 
--- a resolve's
+-- The work of a resolve, made of what was read of its row and its parent, is that of the row.
 pub resolve_made : (rows : List Row) (action i : ℕ) (parent : Option ℕ) (m : Moniker) (base url : List ℕ) (eager : List ℕ) (above : Option (List ℕ)) (declared : Option (List ℕ)) (r : Row) → m ≡ moniker_of rows i → base ≡ unwrap_or above [] → above ≡ above_url rows parent → url ≡ unwrap_or declared [] → declared ≡ option_map (λ s. s.url) (row_of rows i) → eager ≡ [] → row_of rows i ≡ Some r → parent ≡ r.parent → record { action = action; inc = i; moniker = m; base = base; url = url; runner = None; eager = eager } ≡ work_of rows action Resolve r
 resolve_made rows action i parent m base url eager above declared r m_is base_is above_is url_is declared_is eager_is lives up =
     let same : i ≡ r.inc = sym (row_of-inc rows i r lives) in
@@ -114,7 +114,7 @@ resolve_made rows action i parent m base url eager above declared r m_is base_is
     ∙ ap (made i (moniker_of rows i) (base_of rows r) r.url) eager_is
     ∙ ap (λ j. made j (moniker_of rows j) (base_of rows r) r.url []) same
 
--- a start's or a stop's
+-- The work of a start or a stop, made of what was read of its row, is that of the row.
 pub program_made : (rows : List Row) (action i : ℕ) (m : Moniker) (base url eager : List ℕ) (runner : Option (List ℕ)) (absolute : Option (List ℕ)) (r : Row) → m ≡ moniker_of rows i → base ≡ [] → url ≡ unwrap_or absolute [] → absolute ≡ option_and_then (λ s. s.absolute) (row_of rows i) → runner ≡ option_and_then (λ d. d.runner) (decl_of rows i) → row_of rows i ≡ Some r → record { action = action; inc = i; moniker = m; base = base; url = url; runner = runner; eager = eager } ≡ program_work rows action r eager
 program_made rows action i m base url eager runner absolute r m_is base_is url_is absolute_is runner_is lives =
     let same : i ≡ r.inc = sym (row_of-inc rows i r lives) in

@@ -27,12 +27,12 @@ other_kid p coll r other = other_by r.name where
   other_by None = refl
   other_by (Some c) = ap (λ b. cond {A = Option Kid} (b && option_eq bytes_eq c.coll (Some coll) && not r.doomed) (Some (record { name = c.name; inc = r.inc })) None) other
 
--- of its own rows it is what the row says
+-- The child that a parent's own row is in a collection is what the row says.
 pub own_kid : (p : ℕ) (coll : List ℕ) (r : Row) → has_parent p r ≡ true → kid_in coll r ≡ kid_of p coll r
 own_kid p coll r own =
     sym (ap (λ b. option_and_then (λ c. cond {A = Option Kid} (b && option_eq bytes_eq c.coll (Some coll) && not r.doomed) (Some (record { name = c.name; inc = r.inc })) None) r.name) own)
 
--- as it was read
+-- A child of a collection, made of what was read of its row, is that of the row.
 pub kid_found : (rows : List Row) (i : ℕ) (coll : List ℕ) (f : Facts) (c : ChildName) (found : Option Kid) (r : Row) → Some f ≡ option_map facts_of (row_of rows i) → Some c ≡ name_of rows i → found ≡ kid_as coll i f.doomed c → row_of rows i ≡ Some r → found ≡ kid_in coll r
 kid_found rows i coll f c found r e named is lives =
     is

@@ -11,7 +11,7 @@ use Rattle.cm_world.proofs.lemmas.trees.Histories.{Legal-push, replay-push, move
 use Rattle.cm_laws.specs.Story.{Story, world_of, IsLegal, entry_of}
 use Rattle.cm_steps.specs.Inside.{LeavesTree}
 
--- with one entry more that the tree allows, it is legal and leaves the tree behind that entry
+-- With one entry more that the tree allows, a history is legal and leaves the tree behind that entry.
 pub goes_on : (old new : Story) (w v : World) (e : Entry) → LeavesTree old w → new.frame ≡ old.frame → new.entries ≡ old.entries ++ e ∷ [] → IsStep w e → after w e ≡ v → LeavesTree new v
 unfolding world_of IsLegal
 goes_on old new w v e stands same more step moved = record {
@@ -28,11 +28,11 @@ goes_on old new w v e stands same more step moved = record {
       ∙ moved;
 }
 
--- an entry is counted
+-- With an entry at its end a history is longer by one.
 pub one_longer : (es fs : List Entry) (e : Entry) → fs ≡ es ++ e ∷ [] → length es + 1 ≡ length fs
 one_longer es fs e more = sym (ap length more ∙ length-append es (e ∷ []))
 
--- one that moves nothing leaves the tree with one entry more
+-- An event that moves nothing leaves the tree with one entry more.
 pub after-quiet : (w : World) (caller : ℕ) (event : Event) (reply : Reply) → moves event reply ≡ false → after w (entry_of caller event reply) ≡ record w { entries = w.entries + 1 }
 unfolding after
 after-quiet w caller event reply quiet = ap counted (moved-quiet w caller event reply quiet)

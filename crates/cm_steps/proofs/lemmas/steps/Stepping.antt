@@ -27,7 +27,7 @@ use Rattle.cm_steps.proofs.lemmas.asked.Keepers.{goes_beside}
 use Rattle.cm_steps.proofs.lemmas.Planning.{planned_after}
 use Rattle.cm_steps.proofs.lemmas.steps.Telling.{told_none}
 
--- with one entry that room was reserved for just before
+-- An entry pushed into room that was reserved just before leaves what was reserved as it was.
 pub one_pushed : (old mid new : History) (e : Entry) → mid ≡ record old { reserved = old.reserved + 1 } → new ≡ record mid { entries = mid.entries ++ e ∷ []; reserved = mid.reserved - 1 } → new ≡ record old { entries = old.entries ++ e ∷ [] }
 one_pushed old mid new e reserved pushed =
     let back : old.reserved + 1 - 1 ≡ old.reserved = omega arith in
@@ -64,7 +64,7 @@ world_stepped old new e rows next moves s =
     ∙ ap (λ n. made new.table new.acts.items new.joins.items n w.frame) (one_longer _ _ e (ap (λ (h : History). h.entries) s.book))
     ∙ ap (made new.table new.acts.items new.joins.items (length new.records.book.entries)) (sym s.frame)
 
--- and are kept as before
+-- Behind a step that changes rows what a realm keeps is right, with the answers that are kept.
 pub kept_rows : (old new : Inside) (e : Entry) (rows : List Row) (next : ℕ) → IsRealmInvariant old → IsStep (world_in old) e → moved (world_in old) e.caller e.event e.reply ≡ record (world_in old) { rows = rows; next_inc = next } → IsTasked rows old.acts.items → IsRowStep old new e rows next → IsRealmInvariant new
 kept_rows old new e rows next kept step moves tasked s = record {
   stands =

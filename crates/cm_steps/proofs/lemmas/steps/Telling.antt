@@ -8,6 +8,6 @@ use Rattle.cm_steps.specs.LastTold.{nothing_told, IsToldNow}
 pub told_none : (rows : List Row) (last : LastTold) → last ≡ nothing_told → IsToldNow rows last
 told_none rows last is = subst (IsToldNow rows) (sym is) (record { survey = tt; list = tt })
 
--- what was told stays right
+-- What was told last is still right where it stayed and the rows did.
 pub told_same : (rows : List Row) (old new : LastTold) → new ≡ old → IsToldNow rows old → IsToldNow rows new
 told_same rows old new is it = subst (IsToldNow rows) (sym is) it

@@ -65,7 +65,8 @@ flag-slot k ss i s e = ap (λ o. option_map_or (λ (z : Slot). flag_in k z.marks
 pub flag-none : (k : MarkKind) (ss : List Slot) (i : ℕ) → slot_of ss i ≡ None → flag_of k ss i ≡ false
 flag-none k ss i e = ap (λ o. option_map_or (λ (z : Slot). flag_in k z.marks) o false) e
 
--- by the slots one by one
+-- A flag by the slots with one in front is that slot's own, where it has the incarnation, or else the
+-- others'.
 step_by : (t : Bool) (k : MarkKind) (s : Slot) (o : Option Slot) → option_map_or (λ (z : Slot). flag_in k z.marks) (cond t (Some s) o) false ≡ cond t (flag_in k s.marks) (option_map_or (λ (z : Slot). flag_in k z.marks) o false)
 step_by true k s o = refl
 step_by false k s o = refl
@@ -119,7 +120,7 @@ flags_dropped k x j [] differ = refl
 flags_dropped k x j (s ∷ ss) differ =
     left_by (s.row.inc == x) k x j s ss (drop_first (λ z. z.row.inc == x) ss) refl differ (flags_dropped k x j ss differ)
 
--- with more slots behind
+-- With more slots behind, a row's flag is what it was.
 pub flag_before : (k : MarkKind) (ss ts : List Slot) (j : ℕ) (s : Slot) → slot_of ss j ≡ Some s → flag_of k (ss ++ ts) j ≡ flag_of k ss j
 flag_before k ss ts j s e = flag-slot k (ss ++ ts) j s (some_prefix inc_of ss ts j s e) ∙ sym (flag-slot k ss j s e)
 
@@ -158,7 +159,7 @@ mark_index : (rows : List Row) (next : ℕ) (ss : List Slot) → EachItem (IsInd
 mark_index rows next [] all = tt
 mark_index rows next (s ∷ ss) all = (record { base = all.0.base; kids = all.0.kids; names = all.0.names }, mark_index rows next ss all.1)
 
--- so are their indexes
+-- Slots that are the same but for marks have indexes that are right where the others' are.
 pub index_alike : (rows : List Row) (next : ℕ) (ss zs : List Slot) → map unmarked zs ≡ map unmarked ss → EachItem (IsIndexed rows next) ss → EachItem (IsIndexed rows next) zs
 index_alike rows next ss zs e all = mark_index rows next zs (subst (EachItem (IsIndexed rows next)) (sym e) (unmark_index rows next ss all))
 
@@ -199,7 +200,7 @@ only_by true false k b j s ss here at later e = inl (sym (flag_at false k (flagg
 only_by false true k b j s ss here at later e = inl (sym (flag_at true k s (edit_first (λ z. z.row.inc == b) (flagged k) ss) j at) ∙ e)
 only_by false false k b j s ss here at later e = later (sym (flag_at false k s (edit_first (λ z. z.row.inc == b) (flagged k) ss) j at) ∙ e)
 
--- no other is flagged by it
+-- A row that is flagged behind the flagging of one was flagged before, or is that one.
 pub flag-only : (k : MarkKind) (b j : ℕ) (ss : List Slot) → flag_of k (edit_first (λ s. s.row.inc == b) (flagged k) ss) j ≡ true → (flag_of k ss j ≡ true) ⊎ (j ≡ b)
 flag-only k b j [] e = inl e
 flag-only k b j (s ∷ ss) e =
@@ -212,7 +213,7 @@ hit_by : (t : Bool) (k : MarkKind) (b : ℕ) (s z : Slot) (ss : List Slot) → (
 hit_by true k b s z ss here later e = flag_at true k (flagged k s) ss b here ∙ flag_put k s.marks
 hit_by false k b s z ss here later e = flag_at false k s (edit_first (λ y. y.row.inc == b) (flagged k) ss) b here ∙ later e
 
--- it is flagged, if it lives
+-- A row that is flagged and has a slot is flagged then.
 pub flag-hit : (k : MarkKind) (b : ℕ) (ss : List Slot) (z : Slot) → slot_of ss b ≡ Some z → flag_of k (edit_first (λ s. s.row.inc == b) (flagged k) ss) b ≡ true
 flag-hit k b [] z e = absurd (none_some z e)
 flag-hit k b (s ∷ ss) z e = hit_by (s.row.inc == b) k b s z ss refl (flag-hit k b ss z) e

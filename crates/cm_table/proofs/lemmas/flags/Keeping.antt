@@ -56,7 +56,7 @@ down k ss next o flags i p r here up flag =
     ∙ ap (λ u. has_mark k r || at_or_above (length (rows_in ss)) (has_mark k) (rows_in ss) u) up
     ∙ or_right (has_mark k r) (some_above (has_mark k) (rows_in ss) p) (sym (flags k p) ∙ flag)
 
--- so it is behind another mark
+-- Behind a mark for closing, doomed marks still go down the tree.
 pub down_still : (ss ms : List Slot) (next x : ℕ) → Marks Closing x ss ms → IsOrderly (rows_in ss) next → AreFlagged ss → IsDown Doomed ms
 down_still ss ms next x marks o flags i p r here up flag =
     marks.others Doomed i (λ m. refl)

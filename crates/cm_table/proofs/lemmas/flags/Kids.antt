@@ -132,7 +132,7 @@ all_seen_by k ss p i last r e here up (inr behind) = absurd (no_kid (rows_in ss)
 pub all_seen : (k : MarkKind) (ss : List Slot) (p : ℕ) (after last : Option ℕ) → None ≡ child_behind (rows_in ss) p last → AreFlaggedUpto k ss p after last → AreAllFlagged k ss p after
 all_seen k ss p after last e so_far i r here up behind = all_seen_by k ss p i last r e here up (so_far i r here up behind)
 
--- a child that isn't flagged
+-- A next child that isn't flagged is an open one.
 pub open_found : (k : MarkKind) (ss : List Slot) (next p c : ℕ) (last : Option ℕ) → IsOrderly (rows_in ss) next → Some c ≡ child_behind (rows_in ss) p last → flag_of k ss c ≡ false → IsOpenChild k ss p c
 open_found k ss next p c last orderly e flag =
     let n : IsNextKid (rows_in ss) p last c = next_kid (rows_in ss) next p c last orderly e in

@@ -170,7 +170,7 @@ named_row rows next p c r increasing e =
       alive = not-true r.doomed (second_so (has_parent p r && has_name c r) (not r.doomed) passes);
     }
 
--- no second one has the name
+-- Without the child of a name no other child of this parent has the name.
 none_left : (rows : List Row) (next i p : ℕ) (c : ChildName) (r : Row) → IsOrderly rows next → find (is_there p c) rows ≡ Some r → r.inc ≡ i → find (is_there p c) (without i rows) ≡ None
 none_left rows next i p c r o e at =
     no_some (find (is_there p c) (without i rows)) (λ h.

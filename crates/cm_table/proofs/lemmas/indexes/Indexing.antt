@@ -314,7 +314,7 @@ gone_kids : (b : Bool) (i : ℕ) (l : List ℕ) → drop_first (λ k. k == i) l 
 gone_kids true i l e = sym e
 gone_kids false i l e = refl
 
--- that of a slot which isn't its parent's
+-- The index of a slot that isn't the parent's stays right where a row is unlinked.
 pub unlinked_other : (gone : Bool) (rows : List Row) (next i : ℕ) (s : Slot) → IsOrderly rows next → IsIndexed rows next s → ((r : Row) → row_of rows i ≡ Some r → r.parent ≡ Some s.row.inc → ⊥) → IsUnlinked i gone s s
 unlinked_other gone rows next i s o h other = record {
   row = refl;

@@ -51,7 +51,7 @@ forget_by false m n name a q same takes had only =
     takes ∙ ap (λ b. cond b None (led_to m q)) same
     ∙ sym (unless_other a (led_to m q) (λ e. true≢false (sym (only e) ∙ same)))
 
--- the name is taken out
+-- Where a name that led to a child is taken out, all that led to that child is, and nothing else.
 pub forgotten : (m n : ChildrenByName) (name : ChildName) (a : ℕ) → ((q : ChildName) → led_to n q ≡ cond (same_child name q) None (led_to m q)) → led_to m name ≡ Some a → ((q : ChildName) → led_to m q ≡ Some a → same_child name q ≡ true) → (q : ChildName) → led_to n q ≡ unless a (led_to m q)
 forgotten m n name a takes had only q = forget_by (same_child name q) m n name a q refl (takes q) had (only q)
 

@@ -53,7 +53,7 @@ pub kids_more : (ks : List Child) (i : ℕ) (d : Child) (old new : List ℕ) →
 kids_more ks i d old new lt before put =
     put ∙ ap (λ l. l ++ i ∷ []) before ∙ sym (ap incs (rows_more ks i d lt) ∙ incs_append (child_rows 0 0 (take i ks)) (child_row 0 i (get_or ks i d) ∷ []))
 
--- the slot of one child more
+-- With the slot of one child more, the rows are those of the children so far.
 pub rows_pushed : (ks : List Child) (i : ℕ) (k : Child) (ss ts : List Slot) (r : Row) (m : MarksAbove) (kept : Option Moniker) → i < length ks → k ≡ get_or ks i k → rows_in ss ≡ map (child_row 0 0) (take i ks) → ts ≡ ss ++ bare_slot r m kept ∷ [] → r ≡ child_row 0 0 k → rows_in ts ≡ map (child_row 0 0) (take (i + 1) ks)
 rows_pushed ks i k ss ts r m kept lt is before put made =
     ap rows_in put ∙ rows_append ss (bare_slot r m kept ∷ []) ∙ ap (λ l. l ++ r ∷ []) before

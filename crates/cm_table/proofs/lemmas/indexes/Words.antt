@@ -71,7 +71,7 @@ put_by true false k o r name c a is same differ clear =
 put_by false true k o r name c a is same differ clear = absurd (true≢false (differ refl))
 put_by false false k o r name c a is same differ clear = ap (λ x. led_by (by_first c x) r) is
 
--- as the first one of its word
+-- A name put as the first one of its word leads to its child, and all others lead where they led.
 pub put_as_first : (f g : BTreeMap ℕ NamedChild) (others : BTreeMap ChildName ℕ) (word : ℕ) (name : ChildName) (a : ℕ) → word ≡ word_of name → is_taken (get nat_cmp f word) name ≡ false → ((q : ℕ) → get nat_cmp g q ≡ cond (is_eq (nat_cmp word q)) (Some (child_at name a)) (get nat_cmp f q)) → (c : ChildName) → led g others c ≡ cond (same_child name c) (Some a) (led f others c)
 put_as_first f g others word name a own free puts c =
     put_by (is_eq (nat_cmp word (word_of c))) (same_child name c) (get nat_cmp g (word_of c)) (get nat_cmp f (word_of c)) (get child_cmp others c) name c a (puts (word_of c)) refl
@@ -83,7 +83,7 @@ beside : (s : Bool) (k r q v : Option ℕ) → q ≡ cond s v r → (s ≡ true 
 beside true k r q v is clear = ap (λ x. led_by x q) (clear refl) ∙ is
 beside false k r q v is clear = ap (led_by k) is
 
--- among the others
+-- A name put among the others leads to its child, and all others lead where they led.
 pub put_as_other : (f : BTreeMap ℕ NamedChild) (others new : BTreeMap ChildName ℕ) (word : ℕ) (name : ChildName) (a : ℕ) → word ≡ word_of name → is_taken (get nat_cmp f word) name ≡ true → ((q : ChildName) → get child_cmp new q ≡ cond (same_child name q) (Some a) (get child_cmp others q)) → (c : ChildName) → led f new c ≡ cond (same_child name c) (Some a) (led f others c)
 put_as_other f others new word name a own taken puts c =
     beside (same_child name c) (first_named f c) (get child_cmp others c) (get child_cmp new c) (Some a) (puts c)
@@ -102,14 +102,14 @@ gone_by false false k o r q c is gone differ clear = ap (λ x. led_by (by_first 
 named_out : (others new : BTreeMap ChildName ℕ) (name : ChildName) → ((q : ChildName) → get child_cmp new q ≡ cond (is_eq (child_cmp name q)) None (get child_cmp others q)) → (c : ChildName) → get child_cmp new c ≡ cond (same_child name c) None (get child_cmp others c)
 named_out others new name takes c = takes c ∙ ap (λ b. cond b None (get child_cmp others c)) (names_tie name c)
 
--- where it is that of the first one of its word
+-- A name that is taken out leads nowhere then, where it is that of the first one of its word.
 pub removed_first : (f g : BTreeMap ℕ NamedChild) (others new : BTreeMap ChildName ℕ) (word : ℕ) (name : ChildName) → word ≡ word_of name → is_own (get nat_cmp f word) name ≡ true → ((q : ℕ) → get nat_cmp g q ≡ cond (is_eq (nat_cmp word q)) None (get nat_cmp f q)) → ((q : ChildName) → get child_cmp new q ≡ cond (is_eq (child_cmp name q)) None (get child_cmp others q)) → (c : ChildName) → led g new c ≡ cond (same_child name c) None (led f others c)
 removed_first f g others new word name is_word own takes removes c =
     gone_by (is_eq (nat_cmp word (word_of c))) (same_child name c) (get nat_cmp g (word_of c)) (get nat_cmp f (word_of c)) (get child_cmp others c) (get child_cmp new c) c (takes (word_of c)) (named_out others new name removes c)
     (λ e. apart name c (ap (λ w. is_eq (nat_cmp w (word_of c))) (sym is_word) ∙ e))
     (λ e differs. own_by (get nat_cmp f (word_of c)) name c (subst (λ w. is_own (get nat_cmp f w) name ≡ true) (tied word (word_of c) e) own) differs)
 
--- where it isn't
+-- A name that is taken out leads nowhere then, where it isn't that of the first one of its word.
 pub removed_other : (f : BTreeMap ℕ NamedChild) (others new : BTreeMap ChildName ℕ) (word : ℕ) (name : ChildName) → word ≡ word_of name → is_own (get nat_cmp f word) name ≡ false → ((q : ChildName) → get child_cmp new q ≡ cond (is_eq (child_cmp name q)) None (get child_cmp others q)) → (c : ChildName) → led f new c ≡ cond (same_child name c) None (led f others c)
 removed_other f others new word name is_word other removes c =
     beside (same_child name c) (first_named f c) (get child_cmp others c) (get child_cmp new c) None (named_out others new name removes c)

@@ -301,7 +301,7 @@ at_place key ss i k s r lt is own =
       found = λ d. find-nth (λ y. key y == i) ss k d (le_of_lt lt) (others_before key ss k d i r lt (here d)) (λ le. (unsigned_Decides (key (get_or ss k d)) i).1 (here d)) ∙ nth-some ss k d lt;
     }
 
--- and the place behind it is that of its key among the items as parts
+-- The place behind an item is that of its key among the items as parts.
 pub place_behind : {Y : Type 0} (key : Y → ℕ) (ss : List Y) (i k : ℕ) (e : Y) → Increasing key ss → k < length ss → key (get_or ss k e) ≡ i → IsPlace key alone ss i (k + 1)
 place_behind key ss i k e r lt own =
     let here : (d : _) → key (get_or ss k d) ≡ i = λ d. ap key (sym (get_or_default ss k e d lt)) ∙ own in

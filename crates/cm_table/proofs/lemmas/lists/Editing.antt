@@ -201,7 +201,7 @@ edit_at key ss i k f s y r at is write =
     ap (set ss k) (write ∙ ap f is)
     ∙ edit_first-at (λ z. key z == i) f ss k s at.bound ((unsigned_Decides (key (get_or ss k s)) i).1 (at.own s)) (λ j less. others_before key ss k s i r at.bound (at.own s) j less)
 
--- it is taken away
+-- To remove the item at its place is to leave out the one of its key.
 pub drop_at : {Y : Type 0} (key : Y → ℕ) (ss : List Y) (i k : ℕ) (d : Y) → Increasing key ss → IsItemAt key ss i k → remove ss k ≡ dropped key i ss
 drop_at key ss i k d r at =
     drop_first-at (λ z. key z == i) ss k d at.bound ((unsigned_Decides (key (get_or ss k d)) i).1 (at.own d)) (λ j less. others_before key ss k d i r at.bound (at.own d) j less)

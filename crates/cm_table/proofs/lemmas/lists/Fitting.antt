@@ -14,7 +14,7 @@ fit_below t n h =
     below_limit (t.next_inc + n) (2 ^ 64) (omega arith)
     (leb-true (t.next_inc + n) (2 ^ 64 - 1) (second_so (nat_le (length t.rows + n) t.limit) (nat_le (t.next_inc + n) (2 ^ 64 - 1)) h))
 
--- and stay within the limit
+-- Rows that fit stay within the limit.
 pub fit_within : (t : Tree) (n : ℕ) → fit t n ≡ true → length t.rows + n ≤ t.limit
 fit_within t n h =
     leb-true (length t.rows + n) t.limit (first_so (nat_le (length t.rows + n) t.limit) (nat_le (t.next_inc + n) (2 ^ 64 - 1)) h)

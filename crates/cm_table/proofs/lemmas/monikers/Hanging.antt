@@ -30,7 +30,7 @@ no_left : (now done : List Slot) (i : ℕ) → now ≡ done ++ [] → length don
 no_left now done i parts long lt =
     let e : length now ≡ length done + 0 = ap length parts ∙ length-append done [] in absurd (omega arith)
 
--- the next slot
+-- The slot at the next place is the first of those that are left.
 own_by : (above : Option Moniker) (now done left : List Slot) (i : ℕ) (x : Slot) → now ≡ done ++ left → length done ≡ i → EachItem HasOwnName left → i < length now → x ≡ get_or now i x → (rest : List Slot) × (left ≡ x ∷ rest)
 own_by above now done [] i x parts long own lt is = absurd (no_left now done i parts long lt)
 own_by above now done (s ∷ rest) i x parts long own lt is = (rest, ap (λ z. z ∷ rest) (sym (is ∙ ap (λ l. get_or l i x) parts ∙ get_or_at done s rest x i long)))

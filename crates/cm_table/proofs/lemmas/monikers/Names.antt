@@ -58,13 +58,13 @@ moniker_left rows next leaf i r o childless here =
     moniker_same (without leaf rows) rows next next (orderly_without rows next leaf o childless) o
     (λ j s lives. record { row = s; lives = was_there leaf next j rows s o.increasing lives; parent = refl; name = refl }) i r here
 
--- rows come behind
+-- A row's moniker stays where rows come behind.
 pub moniker_before : (xs ys : List Row) (next more i : ℕ) (r : Row) → IsOrderly xs next → IsOrderly (xs ++ ys) more → row_of xs i ≡ Some r → moniker_of (xs ++ ys) i ≡ moniker_of xs i
 moniker_before xs ys next more i r o on here =
     moniker_same xs (xs ++ ys) next more o on
     (λ j s lives. record { row = s; lives = lives_left xs ys j s lives; parent = refl; name = refl }) i r here
 
--- the names down to a child
+-- The moniker of a child has the names of its parent's and then its own.
 pub moniker_child : (rows : List Row) (next i p : ℕ) (r : Row) → IsOrderly rows next → row_of rows i ≡ Some r → r.parent ≡ Some p → moniker_of rows i ≡ record { parts = (moniker_of rows p).parts ++ option_to_list r.name }
 moniker_child rows next i p r o here up =
     ap moniker_with (names_to-step rows next i r o here ∙ ap (λ u. names_to (length rows) rows u ++ option_to_list r.name) up)

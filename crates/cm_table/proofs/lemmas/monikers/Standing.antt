@@ -214,7 +214,7 @@ stand_below rows p above (s ∷ ss) is parents below = (
   stand_below rows p above ss is parents.1 below.1,
 )
 
--- the children that a resolve brings
+-- With the children that a resolve brings, all monikers that are kept are still those of their rows.
 pub standing_taken : (ss mid put ts news : List Slot) (i next more : ℕ) (a : List ℕ) (d : Decl) (x : ChildIndex) (above : Option Moniker) → IsTaken ss mid put ts news i a d x → IsOrderly (rows_in ss) next → IsOrderly (rows_in ts) more → IsTrue (is_live (rows_in ss) i) → IsValid d → ((w : Moniker) → above ≡ Some w → w ≡ moniker_of (rows_in ss) i) → EachItem (IsMonikerBelow above) news → rows_in news ≡ child_rows i next d.children → StandWhereKept ss → StandWhereKept ts
 standing_taken ss mid put ts news i next more a d x above t o on lives valid is below numbered stands =
     let f : Row → Row = change_row (change.Resolve a d) in
@@ -232,7 +232,7 @@ standing_taken ss mid put ts news i next more a d x above t o on lives valid is 
     (stand_below (rows_in put) i above news (λ w e. is w e ∙ sym same)
     (parents_by (λ r. r.parent ≡ Some i) news (subst (EachItem (λ r. r.parent ≡ Some i)) (sym numbered) (child_parents i next d.children))) below))
 
--- a child that is added
+-- With a child added, all monikers that are kept are still those of their rows.
 pub standing_joined : (ss mid ts : List Slot) (next p : ℕ) (name : ChildName) (url : List ℕ) (gives : List Give) (marks : MarksAbove) (kept : Option Moniker) → IsOrderly (rows_in ss) next → IsOrderly (rows_in ts) (next + 1) → IsTrue (is_resolved (rows_in ss) p) → EachOf (IsLinked p name next) ss mid → ts ≡ mid ++ bare_slot (new_row next (Some p) (Some name) url gives) marks kept ∷ [] → IsChildMoniker (rows_in ss) p name kept → StandWhereKept ss → StandWhereKept ts
 standing_joined ss mid ts next p name url gives marks kept o on resolved links pushed below stands =
     let q : (q : Row) × (row_of (rows_in ss) p ≡ Some q) × IsSome q.decl = resolved_by (row_of (rows_in ss) p) resolved in

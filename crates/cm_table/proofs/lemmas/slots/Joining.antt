@@ -19,7 +19,7 @@ use Rattle.cm_trees.proofs.rows.Adding.{resolved_by}
 use Rattle.cm_table.proofs.lemmas.slots.Rowed.{some_rows, rows_append, rows_same}
 use Rattle.cm_table.proofs.lemmas.indexes.Indexing.{all_linked, each_at}
 
--- the parent lives
+-- The slot of a resolved parent is there.
 pub parent_found : (ss : List Slot) (p : ℕ) → IsTrue (is_resolved (rows_in ss) p) → IsSome (slot_of ss p)
 parent_found ss p resolved =
     let q : (q : Row) × (row_of (rows_in ss) p ≡ Some q) × IsSome q.decl = resolved_by (row_of (rows_in ss) p) resolved in

@@ -115,7 +115,7 @@ unlinked gone ss mid ts p i x1 x2 a w up base kids names =
     (λ s h differ. unlinked_other gone (rows_in ss) a.next i s a.orderly h (λ r here under.
     differ (sym (some_same p s.row.inc (sym (parent_of_row (slot_of ss i) (Some p) up r (sym (row_of-slots ss i) ∙ here)) ∙ under))))))
 
--- where it has no parent
+-- Where a row has no parent, no index changes when it is unlinked.
 pub unlinked_none : (gone : Bool) (ss : List Slot) (i : ℕ) → AreOrderly ss → option_and_then (λ s. s.row.parent) (slot_of ss i) ≡ None → EachOf (IsUnlinked i gone) ss ss
 unlinked_none gone ss i a none =
     each_same (IsUnlinked i gone) (IsIndexed (rows_in ss) a.next) ss
@@ -129,7 +129,7 @@ parent_row : (o : Option Slot) (p : ℕ) → option_and_then (λ s. s.row.parent
 parent_row None p e = absurd (none_some p e)
 parent_row (Some s) p e = (s.row, refl, e)
 
--- the parent lives
+-- The slot of a row's parent is there in orderly slots.
 pub parent_lives : (ss : List Slot) (i p : ℕ) → AreOrderly ss → option_and_then (λ s. s.row.parent) (slot_of ss i) ≡ Some p → (s : Slot) × (slot_of ss p ≡ Some s)
 parent_lives ss i p a up =
     let r = parent_row (slot_of ss i) p up in

@@ -62,7 +62,7 @@ changed_row : (t : Bool) (s : Slot) (f : Row → Row) (ss es : List Slot) (rs : 
 changed_row true s f ss es rs e = refl
 changed_row false s f ss es rs e = ap (λ l. s.row ∷ l) e
 
--- another row changes that row
+-- To change a slot's row by its incarnation is to change that row among the rows.
 pub rows_changed : (i : ℕ) (f : Row → Row) (ss : List Slot) → rows_in (edited inc_of i (with_row_by f) ss) ≡ changed i f (rows_in ss)
 rows_changed i f [] = refl
 rows_changed i f (s ∷ ss) = changed_row (s.row.inc == i) s f ss (edited inc_of i (with_row_by f) ss) (changed i f (rows_in ss)) (rows_changed i f ss)

@@ -17,7 +17,7 @@ keeping_end Stopped = record { inc = λ r. refl; parent = λ r. refl; name = λ 
 keeping_end Killed = record { inc = λ r. refl; parent = λ r. refl; name = λ r. refl; doomed = λ r h. h; resolved = λ r h. h; valid = λ r d h. inl h }
 keeping_end _ = record { inc = λ r. refl; parent = λ r. refl; name = λ r. refl; doomed = λ r h. h; resolved = λ r h. h; valid = λ r d h. inl h }
 
--- so does every other change, but for a declaration that a resolve brings
+-- A safe change of a row keeps its place and its declaration, as an end does.
 pub keeping : (c : Change) → IsSafe c → IsKeeping (change_row c)
 keeping (On on) safe = record { inc = λ r. refl; parent = λ r. refl; name = λ r. refl; doomed = λ r h. h; resolved = λ r h. h; valid = λ r d h. inl h }
 keeping (Pending pending) safe = record { inc = λ r. refl; parent = λ r. refl; name = λ r. refl; doomed = λ r h. h; resolved = λ r h. h; valid = λ r d h. inl h }
@@ -38,7 +38,7 @@ spares_end _ = record { inc = λ r. refl; parent = λ r. refl; name = λ r. refl
 pub spares_closing : SparesRows set_closing
 spares_closing = record { inc = λ r. refl; parent = λ r. refl; name = λ r. refl; doomed = λ r. refl }
 
--- nor does a change that puts no mark there
+-- A change that puts no mark spares rows from marks.
 pub spares : (c : Change) → IsSparing c → SparesRows (change_row c)
 spares (On on) sparing = record { inc = λ r. refl; parent = λ r. refl; name = λ r. refl; doomed = λ r. refl }
 spares (Pending pending) sparing = record { inc = λ r. refl; parent = λ r. refl; name = λ r. refl; doomed = λ r. refl }

@@ -47,7 +47,7 @@ not_at true i next j x s xs own increasing later e is =
     ne_of_lt (increasing.0.1 j (is_some_by (row_of xs j) s e)) ((unsigned_Decides x.inc i).0 own ∙ sym is)
 not_at false i next j x s xs own increasing later e is = not_by (x.inc == j) i j x s (row_of (without i xs) j) refl own later e is
 
--- and isn't the one that was taken away
+-- A row that is left isn't the one that was taken away.
 pub not_taken : (i next j : ℕ) (rows : List Row) (s : Row) → IncarnationsIncrease next rows → row_of (without i rows) j ≡ Some s → j ≡ i → ⊥
 not_taken i next j [] s increasing e is = absurd (none_some s e)
 not_taken i next j (x ∷ xs) s increasing e is = not_at (x.inc == i) i next j x s xs refl increasing (not_taken i next j xs s increasing.1) e is
@@ -130,7 +130,7 @@ above_below (suc n) passes rows next i j s o childless low here =
     above_below n passes rows next i p q.row o childless (lt_of_lt_suc p j n q.lower low) q.lives))
     ∙ sym (some_above-step passes rows next j s o (was_there i next j rows s o.increasing here))
 
--- it is the same as before
+-- What is at or above another row is the same where a row without children is left out.
 pub above_same : (passes : Row → Bool) (rows : List Row) (next i j : ℕ) (s : Row) → IsOrderly rows next → child_behind rows i None ≡ None → row_of (without i rows) j ≡ Some s → some_above passes (without i rows) j ≡ some_above passes rows j
 above_same passes rows next i j s o childless here = above_below (j + 1) passes rows next i j s o childless (omega arith) here
 

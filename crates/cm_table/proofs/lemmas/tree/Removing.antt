@@ -72,7 +72,7 @@ goes_on rows next top leaf o l differ =
     (goes_by rows next top leaf q.0 q.0.parent o l q.1 refl
     (or_true_second (q.0.inc == top) (at_or_above (length rows) (λ s. s.inc == top) rows q.0.parent) other (sym (some_above-step (λ s. s.inc == top) rows next leaf q.0 o q.1) ∙ l.below)))
 
--- the parent, by slots
+-- The parent that a slot tells is that of its row.
 pub parent_by_slots : (o : Option Slot) → option_and_then (λ s. s.row.parent) o ≡ option_and_then (λ r. r.parent) (option_map (λ s. s.row) o)
 parent_by_slots None = refl
 parent_by_slots (Some s) = refl

@@ -90,20 +90,20 @@ known_without set i rows new is known = record {
   none = λ c lacks. subst (λ rs. IsUnwanted rs c) (sym is) (plain_without c i rows (known.none c lacks));
 }
 
--- with declared children
+-- With declared children, which are given nothing, what is known of names is still right.
 pub known_grown : (set : BTreeSet ℕ) (i p next : ℕ) (ks : List DeclaredChild) (f : Row → Row) → ((r : Row) → (f r).gives ≡ r.gives) → (rows new : List Row) → new ≡ changed i f rows ++ child_rows p next ks → KnowsWanted rows set → KnowsWanted new set
 known_grown set i p next ks f same rows new is known = record {
   none = λ c lacks. subst (λ rs. IsUnwanted rs c) (sym is)
       (plain_more c (changed i f rows) (child_rows p next ks) (plain_changed c i f same rows ∙ known.none c lacks) (plain_children c p next ks));
 }
 
--- with more names
+-- With more names in the set, what is known of names is still right.
 pub known_wider : (old set : BTreeSet ℕ) (rows new : List Row) → new ≡ rows → HasNamesOf old set → KnowsWanted rows old → KnowsWanted new set
 known_wider old set rows new is wider known = record {
   none = λ c lacks. subst (λ rs. IsUnwanted rs c) (sym is) (known.none c (wider c lacks));
 }
 
--- with one row more, whose sources the set has
+-- With one row more, whose sources the set has, what is known of names is still right.
 pub known_added : (old set : BTreeSet ℕ) (rows new : List Row) (r : Row) (gives : List Give) → new ≡ rows ++ r ∷ [] → r.gives ≡ gives → HasNamesOf old set → HasSourcesOf gives set → KnowsWanted rows old → KnowsWanted new set
 known_added old set rows new r gives is own wider sources known = record {
   none = λ c lacks. subst (λ rs. IsUnwanted rs c) (sym is)
@@ -126,7 +126,7 @@ put_keeps old new word puts c lacks = (true_or (is_eq (nat_cmp word (word_of c))
 pub put_own : (old new : BTreeSet ℕ) (name : ChildName) → ((q : ℕ) → contains nat_cmp new q ≡ cond (is_eq (nat_cmp (word_of name) q)) true (contains nat_cmp old q)) → (c : ChildName) → has_name new c ≡ false → same_child name c ≡ false
 put_own old new name puts c lacks = apart name c ((true_or (is_eq (nat_cmp (word_of name) (word_of c))) (has_name old c) (sym (puts (word_of c)) ∙ lacks)).0)
 
--- the same keys
+-- A set with the same keys has the names of the other.
 pub same_keys : (old new : BTreeSet ℕ) → new.keys ≡ old.keys → HasNamesOf old new
 same_keys old new same c lacks = ap (λ ks. has_name (record { keys = ks }) c) (sym same) ∙ lacks
 

@@ -60,7 +60,8 @@ quoted_size q bs n h =
     let inside : length (flat_map char_bytes (within false (take n bs))) ≡ n = ap length (within_spells false (take n bs)) ∙ length-take-le n bs h in
     rw (length-append (flat_map char_bytes (within false (take n bs))) (q ∷ [])) (omega arith)
 
--- what stands behind the first byte, where the code's slices say so
+-- Where a string closes behind its first byte, by slices of bytes that are a text's, it closes there in the
+-- text.
 pub close_in : (bytes text : List ℕ) (o : Option ℕ) → bytes ≡ text → o ≡ close_place (get_or bytes 0 0) false (take (length bytes - 1) (drop 1 bytes)) → close_place (get_or text 0 0) false (drop 1 text) ≡ o
 close_in bytes text o v h = ap (λ xs. close_place (get_or xs 0 0) false (drop 1 xs)) (sym v) ∙ ap (close_place (get_or bytes 0 0) false) (sym (take_rest bytes 1)) ∙ sym h
 

@@ -26,7 +26,7 @@ spelled_by_test : (b : ℕ) (bs : List ℕ) (t : Bool) → (b == 92) ≡ t → (
 spelled_by_test b bs true e f = ap (flat_map char_bytes) (within_slash b bs e) ∙ f true ∙ ap (λ x. x ∷ bs) (sym (eqb-true b 92 e))
 spelled_by_test b bs false e f = ap (flat_map char_bytes) (within_plain b bs e) ∙ ap (λ xs. b ∷ xs) (f false)
 
--- the characters spell the bytes
+-- The characters within quotes spell the bytes there.
 pub within_spells : (e : Bool) (bs : List ℕ) → flat_map char_bytes (within e bs) ≡ behind e bs
 within_spells false [] = refl
 within_spells true [] = refl

@@ -29,7 +29,7 @@ never_unclosed : (q : ℕ) (bs : List ℕ) → NeverCloses q bs → (r : Option 
 never_unclosed q bs h None f = refl
 never_unclosed q bs h (Some cs) f = let c = f cs refl in absurd (h cs c.rest c.chars c.bytes)
 
--- no piece begins here
+-- A slash with neither a slash nor a star behind it begins no piece.
 no_slash_piece : (bs : List ℕ) → begins_with (λ c. (c == 47) || (c == 42)) bs ≡ false → comment_piece bs ≡ stray
 no_slash_piece [] h = refl
 no_slash_piece (c ∷ cs) h = rw (comment_piece, or_false_first (c == 47) (c == 42) h) (rw (or_false_second (c == 47) (c == 42) h) refl)

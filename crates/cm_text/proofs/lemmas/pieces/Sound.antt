@@ -188,7 +188,7 @@ some_bytes_there n = grind (arith, rules)
 word_stands : (b : ℕ) (bs : List ℕ) → is_word_byte b ≡ true → Stands (token (word (b ∷ take_while is_word_byte bs))) (b ∷ bs)
 word_stands b bs h = let r = runs is_word_byte bs in record { rest = r.rest; bytes = ap (λ xs. b ∷ xs) r.bytes; piece = rw (some_bytes_there (length (take_while is_word_byte bs))) (rw h r.passes); follows = ap not r.ends }
 
--- what stands behind a slash, by whether it is a slash or a star
+-- Behind a slash another one begins the comment of a line.
 line_piece : (c : ℕ) (bs : List ℕ) → (c == 47) ≡ true → comment_piece (c ∷ bs) ≡ piece (line_comment (take_while is_in_line bs))
 line_piece c bs e = rw (comment_piece, e) refl
 

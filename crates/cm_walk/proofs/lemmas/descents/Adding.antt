@@ -49,7 +49,7 @@ or_none true b = refl
 or_none false true = refl
 or_none false false = refl
 
--- at first none is seen
+-- Before the first child none is seen, so what is there stays.
 pub seen_first : (rows : List Row) (p q : ℕ) (there : Bool) → there ≡ (there || is_seen rows p None q)
 seen_first rows p q there = or_none there (is_child rows p q)
 
@@ -98,7 +98,7 @@ more_by rows next p j q after false old now new orderly n e so_far put =
     put ∙ so_far
     ∙ ap (λ b. old || b) (same_where (is_child rows p q) (is_behind after q) (nat_lt j q) (λ child. same_behind rows next p j q after (is_behind after q) (nat_lt j q) orderly n apart child refl refl))
 
--- the next child more
+-- With the next child put in, what is seen is all up to it.
 pub seen_more : (rows : List Row) (next p j q : ℕ) (after : Option ℕ) (old now new : Bool) → IsOrderly rows next → next_of (has_parent p) after rows ≡ Some j → now ≡ (old || is_seen rows p after q) → new ≡ cond (is_eq (nat_cmp j q)) true now → new ≡ (old || is_seen rows p (Some j) q)
 seen_more rows next p j q after old now new orderly e so_far put =
     more_by rows next p j q after (is_eq (nat_cmp j q)) old now new orderly (is_next (has_parent p) after rows next j orderly e) refl so_far put
@@ -116,7 +116,7 @@ none_behind rows p q after true none child behind =
     let found : (r : Row) × (find (λ s. has_parent p s && is_behind after s.inc) rows ≡ Some r) = find_some (λ s. has_parent p s && is_behind after s.inc) rows q kid.0 kid.1 kid.2 in
     absurd (none_some found.0 (sym (option_map_none (λ (r : Row). r.inc) (find (λ s. has_parent p s && is_behind after s.inc) rows) none) ∙ found.1))
 
--- at the end all are seen
+-- Where no child is left, all children are seen.
 pub seen_all : (rows : List Row) (p q : ℕ) (after : Option ℕ) (old now : Bool) → next_of (has_parent p) after rows ≡ None → now ≡ (old || is_seen rows p after q) → now ≡ (old || is_child rows p q)
 seen_all rows p q after old now none so_far =
     so_far ∙ ap (λ b. old || b) (all_where (is_child rows p q) (is_behind after q) (λ child. none_behind rows p q after (is_behind after q) none child refl))

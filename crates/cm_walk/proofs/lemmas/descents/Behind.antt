@@ -123,11 +123,11 @@ taken_more p g rows next j after seen more found orderly none e is pushed so_far
     ∙ ap (λ l. seen ++ l) (sym (next_splits p g after rows next n.row orderly.increasing none n.found))
     ∙ so_far
 
--- at first nothing is seen
+-- Before the first row nothing is taken, and all is left.
 pub taken_first : {B : Type 0} (g : Row → Option B) (rows : List Row) → [] ++ filter_map g (behind None rows) ≡ filter_map g rows
 taken_first g rows = ap (filter_map g) (all_behind None rows (λ s h. refl))
 
--- at the end nothing is left
+-- Where no row is left that passes, what was taken is all.
 pub taken_all : {B : Type 0} (p : Row → Bool) (g : Row → Option B) (rows : List Row) (after : Option ℕ) (seen : List B) → ((y : Row) → p y ≡ false → g y ≡ None) → next_of p after rows ≡ None → seen ++ filter_map g (behind after rows) ≡ filter_map g rows → seen ≡ filter_map g rows
 taken_all p g rows after seen none e so_far =
     sym (ap (λ l. seen ++ l) (none_left p g after rows none (option_map_none (λ (r : Row). r.inc) (find (λ r. p r && is_behind after r.inc) rows) e)) ∙ append-nil seen) ∙ so_far

@@ -107,7 +107,7 @@ unsure_is prefix s hop t same behind =
     ∙ ap (λ a. if is_offer_or_expose s.hop.step then unless_fitting s.hop a (standing_by a s.hop.availability) else None) behind.availability
     ∙ ap (λ a. if is_offer_or_expose s.hop.step then unless_fitting s.hop (standing prefix) a else None) (sym (standing-more prefix s))
 
--- the rights that are asked
+-- The rights that are asked so far, tried against a hop's, are too weak exactly where the definition says.
 pub narrow_is : (prefix : List Station) (s : Station) (hop : Hop) (t : Trail) → s.hop ≡ hop → IsBehind prefix s t → unless_within hop t.asked hop.rights ≡ weak_rights prefix s
 narrow_is prefix s hop t same behind =
     ap (λ h. unless_within h t.asked h.rights) (sym same) ∙ ap (λ a. unless_within s.hop a s.hop.rights) behind.asked

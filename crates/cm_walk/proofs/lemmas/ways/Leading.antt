@@ -87,7 +87,7 @@ replies_from rows i k prefix (c ∷ cs) len =
 pub finds_as_located : FindsAsLocated
 finds_as_located rows names = replies_from rows 0 0 [] names refl
 
--- so does one whose moniker leads there
+-- A find gets the reply of where its names lead.
 pub find_reply : (rows : List Row) (names : List ChildName) (l : Located) → located_from rows 0 0 names ≡ l → IsFindReply rows names l (found_from rows 0 [] names)
 find_reply rows names l is =
     subst (λ x. IsFindReply rows names x (found_from rows 0 [] names)) is (finds_as_located rows names)

@@ -47,7 +47,7 @@ reverse_one : (o : Option ChildName) → reverse (option_to_list o) ≡ option_t
 reverse_one None = refl
 reverse_one (Some c) = refl
 
--- one name more
+-- With one name more gathered on the way up, what is gathered and what is above make all names.
 pub names-more : (all seen more : List ChildName) (rows : List Row) (next i : ℕ) → IsOrderly rows next → all ≡ names_to (length rows) rows (Some i) ++ reverse seen → more ≡ seen ++ option_to_list (option_and_then (λ r. r.name) (row_of rows i)) → all ≡ names_to (length rows) rows (option_and_then (λ r. r.parent) (row_of rows i)) ++ reverse more
 names-more all seen more rows next i orderly so_far pushed =
     let name : List ChildName = option_to_list (option_and_then (λ r. r.name) (row_of rows i)) in
@@ -62,7 +62,7 @@ pub loop-lower : (rows : List Row) (next i : ℕ) (at above : Option ℕ) → Is
 loop-lower rows next i at above orderly here up =
     rw (here, up) (parent-lower rows next i orderly)
 
--- and has put the instance's name behind those that it has seen
+-- A step up puts the instance's name behind those that were seen, and leaves the ones above.
 pub loop-more : (all seen more : List ChildName) (name : Option ChildName) (rows : List Row) (next i : ℕ) (at above : Option ℕ) → IsOrderly rows next → at ≡ Some i → above ≡ option_and_then (λ r. r.parent) (row_of rows i) → all ≡ names_to (length rows) rows at ++ reverse seen → name ≡ option_and_then (λ r. r.name) (row_of rows i) → more ≡ seen ++ option_to_list name → all ≡ names_to (length rows) rows above ++ reverse more
 loop-more all seen more name rows next i at above orderly here up so_far named pushed =
     names-more all seen more rows next i orderly (so_far ∙ ap (λ o. names_to (length rows) rows o ++ reverse seen) here) (pushed ∙ ap (λ o. seen ++ option_to_list o) named)

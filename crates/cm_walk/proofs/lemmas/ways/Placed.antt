@@ -127,7 +127,7 @@ start_placed rows (UseAt i path) = used_placed rows i _
 start_placed rows (ExposeAt i name) = exposing_placed rows i _ _
 start_placed rows (OfferAt i k) = offering_placed rows i _
 
--- so does the station that a start names
+-- The hop of the station that a start names is placed where its instance stands.
 pub first_placed : (rows : List Row) (start : Start) (s : Station) → named_by rows start ≡ First s → IsHopPlaced rows s.hop
 first_placed rows start s e = subst (PlacedFirst rows) e (start_placed rows start)
 

@@ -59,7 +59,7 @@ pub mark_found : (all : Bool) (p : Row → Bool) (rows : List Row) (next i : ℕ
 mark_found all p rows next i at so_far orderly here hits =
     sym (so_far ∙ ap (at_or_above (length rows) p rows) here ∙ found_by p rows next i (row_of rows i) orderly refl hits)
 
--- at the root it ends
+-- Above the root no row has the mark, so the search up ends there with none.
 pub no_mark : (all : Bool) (p : Row → Bool) (rows : List Row) (at : Option ℕ) → all ≡ at_or_above (length rows) p rows at → at ≡ None → false ≡ all
 no_mark all p rows at so_far top = sym (so_far ∙ ap (at_or_above (length rows) p rows) top ∙ above_root (length rows) p rows)
 
@@ -92,7 +92,7 @@ pub no_row : (all : Bool) (p : Row → Bool) (rows : List Row) (i : ℕ) (at : O
 no_row all p rows i at so_far here none =
     sym (so_far ∙ ap (at_or_above (length rows) p rows) here ∙ nothing_above (length rows) p rows i (option_map_none facts_of (row_of rows i) (sym none)))
 
--- by what is above a row that lives, whether it is gone
+-- Whether a row that lives is gone is told by what is at and above it.
 pub gone_above : (rows : List Row) (i : ℕ) (f : Facts) → Some f ≡ option_map facts_of (row_of rows i) → some_above (λ r. r.doomed) rows i ≡ is_gone rows i
 gone_above rows i f e =
     let t : Told (row_of rows i) f = told rows i f e in
@@ -102,7 +102,7 @@ gone_above rows i f e =
 pub gone_none : (rows : List Row) (i : ℕ) → None ≡ option_map facts_of (row_of rows i) → true ≡ is_gone rows i
 gone_none rows i e = sym (ap (λ o. not (is_some o) || some_above (λ r. r.doomed) rows i) (option_map_none facts_of (row_of rows i) (sym e)))
 
--- by its facts, whether it is shut
+-- Whether a row is shut is told by its facts.
 pub shut_told : (rows : List Row) (i : ℕ) (f : Facts) → Some f ≡ option_map facts_of (row_of rows i) → f.shut ≡ is_shut rows i
 shut_told rows i f e =
     let t : Told (row_of rows i) f = told rows i f e in

@@ -29,12 +29,12 @@ failed_is_legal = (
   (record { enabled = record { joined = refl; ended = refl }; allowed = refl }, tt),
 )
 
--- the outcome isn't there yet
+-- In the example an await isn't enabled while the action is open.
 pub await_waits : IsEnabled (replay resolved joined_entries) 1 (Await 4) → ⊥
 unfolding after
 await_waits may = true≢false (sym may.ended)
 
--- and is taken once
+-- In the example an outcome that was awaited isn't awaited again.
 pub awaited_once : IsEnabled (replay (replay resolved joined_entries) failed_entries) 1 (Await 4) → ⊥
 unfolding after
 awaited_once may = true≢false (sym may.joined)

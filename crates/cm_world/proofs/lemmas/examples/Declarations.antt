@@ -86,7 +86,7 @@ one_offer false y h = absurd (true≢false (sym h))
 child_edge : (n : ChildName) (y : Node) → StrongOn root_decl [] (Child n) y → IsTrue (bytes_eq c (target_of n)) × IsTrue (is_from_node y (from_child l))
 child_edge n y h = one_offer (bytes_eq c (target_of n)) y (edge_source root_decl [] (Child n) y h)
 
--- a child isn't both
+-- A child's name isn't both of these two.
 apart : (coll : Option (List ℕ)) (name : List ℕ) → IsTrue (option_eq bytes_eq None coll && bytes_eq l name) → IsTrue (bytes_eq c (unwrap_or coll name)) → ⊥
 apart (Some k) name h g = true≢false (sym h)
 apart None name h g =

@@ -25,7 +25,7 @@ no_decl_by : (t : Bool) (url : List ℕ) → option_and_then (λ r. r.decl) (con
 no_decl_by true url = refl
 no_decl_by false url = refl
 
--- so no level has an edge
+-- In a new tree no level has an edge.
 no_edge : (url : List ℕ) (p x y : ℕ) → LevelStrong (root_row url ∷ []) p x y → ⊥
 no_edge url p x y h =
     let none : decl_of (root_row url ∷ []) p ≡ None = no_decl_by (0 == p) url in

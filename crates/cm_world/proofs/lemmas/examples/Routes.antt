@@ -100,7 +100,7 @@ unoffered_is_legal = (
   ),
 )
 
--- one that lacks an expose fails at the missing expose of the logger
+-- A history whose route fails at the missing expose of the logger is legal.
 pub unexposed_is_legal : Legal (start frame) unexposed_entries
 unfolding after
 unexposed_is_legal = (

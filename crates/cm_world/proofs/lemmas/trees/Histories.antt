@@ -25,7 +25,7 @@ pub replay-append : (w : World) (es fs : List Entry) → replay w (es ++ fs) ≡
 replay-append w [] fs = refl
 replay-append w (x ∷ xs) fs = replay-append (after w x) xs fs
 
--- and only there
+-- Where entries and more are legal, the first are, and the others are from the tree that these leave.
 pub Legal-split : (w : World) (es fs : List Entry) → Legal w (es ++ fs) → Legal w es × Legal (replay w es) fs
 Legal-split w [] fs legal = (tt, legal)
 Legal-split w (x ∷ xs) fs legal =

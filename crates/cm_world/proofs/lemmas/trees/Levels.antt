@@ -24,7 +24,7 @@ edge_source rows p x y strong =
     let by : Bool = list_any (is_from_row rows p y) (level_sources rows p x) in
     first_so by (is_level_node rows p x) (first_so (by && is_level_node rows p x) (is_level_node rows p y) strong)
 
--- the first is a node
+-- Who depends strongly in a level is a node of it.
 pub edge_node : (rows : List Row) (p x y : ℕ) → LevelStrong rows p x y → IsTrue (is_level_node rows p x)
 edge_node rows p x y strong =
     let by : Bool = list_any (is_from_row rows p y) (level_sources rows p x) in
@@ -49,7 +49,7 @@ either : (a b live : Bool) → IsTrue ((a && live) || b) → b ≡ false → IsT
 either true b live h none = refl
 either false b live h none = absurd (true≢false (sym h ∙ none))
 
--- then p is the only node
+-- Where p has no child, p is the only node of its level.
 lone_node : (rows : List Row) (p x : ℕ) → list_any (has_parent p) rows ≡ false → IsTrue (is_level_node rows p x) → IsTrue (x == p)
 lone_node rows p x none node =
     either (x == p) (is_child_row rows p x) (is_live rows p) node (childless rows p x none)
@@ -62,7 +62,7 @@ lone_level rows p x y none silent (inl strong) =
 lone_level rows p x y none silent (inr implied) =
     implied.child ((unsigned_Decides x p).0 (lone_node rows p x none implied.node))
 
--- so every node is free there
+-- Where p has no child, and no node has a source, every node of its level is free.
 pub lone_free : (rows : List Row) (p x : ℕ) → list_any (has_parent p) rows ≡ false → ((z : ℕ) → IsTrue (z == p) → level_sources rows p z ≡ []) → IsFree rows p x
 lone_free rows p x none silent z ([], on) = absurd (lone_level rows p z x none silent on)
 lone_free rows p x none silent z (v ∷ vs, way) = absurd (lone_level rows p z v none silent way.0)

@@ -306,7 +306,7 @@ walk_at rows builtins prefix s None e more =
     let end : HasEnd rows builtins (prefix ++ s ∷ []) next.0 = more next.0 next.1 in
     record { verdict = end.verdict; rest = next.0 ∷ end.rest; chain = (next.1, end.chain); decided = (e, end.decided) }
 
--- from a station with fewer than n steps left
+-- A walk from a station with fewer than n steps left has an end.
 pub walks_from : (n : ℕ) (rows : List Row) (next : ℕ) (builtins : List Builtin) (prefix : List Station) (s : Station) → IsOrderly rows next → KeepsDown s → steps_left next s < n → HasEnd rows builtins prefix s
 walks_from zero rows next builtins prefix s orderly keeps low = absurd (omega arith)
 walks_from (suc n) rows next builtins prefix s orderly keeps low =
@@ -322,6 +322,6 @@ end_by rows next builtins begin (First s) orderly f =
 end_by rows next builtins begin NoUse orderly f = (NoSuchUse, refl)
 end_by rows next builtins begin (NoneExposed hop) orderly f = (Failed hop why.NoExpose, refl)
 
--- in an orderly tree every walk comes to an answer
+-- The law that in an orderly tree every walk comes to an answer.
 pub walks_end : WalksEnd
 walks_end rows next builtins begin orderly = end_by rows next builtins begin (named_by rows begin) orderly refl
