@@ -57,6 +57,7 @@ pub record IsFreeByLists (rows : List Row) (p x : ℕ) (known : Dependents) : Ty
   pub free : IsFree rows p x
   pub clients : (z : ℕ) → LevelStrong rows p z x → IsTrue (is_in_set known.cleared z)
 
+-- what each standing says of child x: it is free, it isn't, or it waits for p itself
 abbrev pub IsChildStanding : List Row → ℕ → ℕ → Dependents → ChildStanding → Type 0
 IsChildStanding rows p x known Free = IsFreeByLists rows p x known
 IsChildStanding rows p x known Bound = IsFree rows p x → ⊥
@@ -83,6 +84,7 @@ pub record IsKidAbove (rows : List Row) (p x z : ℕ) (known : Dependents) : Typ
   pub shut : IsTrue (is_wholly_shut rows p z)
   pub left : is_in_set known.cleared z ≡ false
 
+-- what each look at the list of row x says: nobody is in it, or this one that isn't known to be cleared
 abbrev pub IsLook : List Row → ℕ → ℕ → Dependents → ClientLook → Type 0
 IsLook rows p x known look.NoClient = HasNoClient known x
 IsLook rows p x known look.Unshut = IsBoundBy rows p x
@@ -91,6 +93,7 @@ IsLook rows p x known (look.Shut z) = IsKidAbove rows p x z known
 
 -- ---- the way up from a child, each row of which strongly depends on the one before
 
+-- the first item of a list is c
 abbrev pub BeginsWith : ℕ → List ℕ → Type 0
 BeginsWith c [] = ⊥
 BeginsWith c (x ∷ xs) = x ≡ c
@@ -105,6 +108,7 @@ pub record IsOnClimb (rows : List Row) (p c x : ℕ) : Type 0 where
   pub kid : IsKid rows p x
   pub up : (x ≡ c) ⊎ (Reaches (LevelStrong rows p) x c × IsTrue (is_wholly_shut rows p x))
 
+-- a way up from child c: it begins there, all its rows are such, and each strongly depends on all before it
 pub record IsClimb (rows : List Row) (p c : ℕ) (way : List ℕ) : Type 0 where
   pub begins : BeginsWith c way
   pub each : EachOfList (IsOnClimb rows p c) way

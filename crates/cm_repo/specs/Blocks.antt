@@ -23,7 +23,7 @@ Blocks = List (List ℕ × List ℕ)
 abbrev pub blocks_of : List (String Global × KeptBlock) → Blocks
 blocks_of entries = map (λ entry. (string_bytes entry.0, entry.1.bytes)) entries
 
--- the text of a key is its own URL's, where its block came under this very text
+-- where a block came under the very text of its key, that text is what its URL comes to
 abbrev pub IsOwnKey : String Global × KeptBlock → Type 0
 IsOwnKey entry = IsTrue entry.1.verbatim → key_of (string_bytes entry.0) ≡ Ok (string_bytes entry.0)
 
