@@ -6,11 +6,11 @@ ghost use Rattle.cm_world.specs.End.{HasValid};
 ghost use Rattle.cm_world.specs.Step.{IsEnabled, MayAwait, MayEnd};
 ghost use Rattle.cm_laws.specs.Story.{world_of, AddsEntry};
 ghost use Rattle.cm_steps.specs.Ends.{finish_of};
-ghost use Rattle.cm_steps.specs.Requests.{event_of};
+ghost use Rattle.cm_steps.specs.Requests.{event_for, event_of};
 
 use cm_steps::{Ending, EventRef, NoStep, Realm, Request};
 use cm_table::Prepared;
-use cm_world::{Event, Finish, Reply};
+use cm_world::{Event, Finish, NewChild, Reply};
 use std::alloc::Global;
 
 /// Makes the step of an event that its caller may make now. What the event names is copied for the
@@ -45,9 +45,7 @@ fn lent(event: &Event) -> EventRef<'_>
         Event::Begin(kind, inc) => EventRef::Ask(Request::Begin(*kind), *inc),
         Event::End(_, _) => unreachable!(),
         Event::Await(_) => unreachable!(),
-        Event::Create(parent, coll, name, url, gives) => {
-            EventRef::Ask(Request::Create(coll, name, url, gives), *parent)
-        }
+        Event::Create(parent, child) => EventRef::Ask(creation(child.get()), *parent),
         Event::Mark(doom, inc) => EventRef::Ask(Request::Mark(*doom), *inc),
         Event::Pick(target) => EventRef::Pick(*target),
         Event::Purge(inc) => EventRef::Purge(*inc),
@@ -61,6 +59,13 @@ fn lent(event: &Event) -> EventRef<'_>
         Event::Tail(inc, from) => EventRef::Ask(Request::Tail(*from), *inc),
         Event::Reap(inc) => EventRef::Reap(*inc),
     }
+}
+
+/// The creation of a child, as it is lent to a realm.
+fn creation(child: &NewChild) -> Request<'_>
+    ensures { (parent : ℕ) → event_for result parent ≡ Event.Create parent child.now }
+{
+    Request::Create(&child.coll, &child.name, &child.url, &child.gives)
 }
 
 /// How an action ends that may end so. A declaration is shared with the event.

@@ -78,7 +78,7 @@ named_in (reply.Reaping incs) = incs
 -- report
 abbrev pub asked_of : Event → Option ℕ
 asked_of (Begin kind i) = Some i
-asked_of (Create i coll name url gives) = Some i
+asked_of (Create i child) = Some i
 asked_of (RouteOf i path) = Some i
 asked_of (OpenUse i path) = Some i
 asked_of (OpenExposed i name) = Some i

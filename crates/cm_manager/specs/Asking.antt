@@ -45,7 +45,7 @@ frame_of p = frame_in p.frame
 abbrev pub is_asked : Event → Bool
 is_asked (event.Find m) = true
 is_asked (event.Begin kind i) = true
-is_asked (event.Create p coll name url gives) = true
+is_asked (event.Create p child) = true
 is_asked (event.Mark doom i) = true
 is_asked (event.Pick t) = true
 is_asked (event.Purge i) = true

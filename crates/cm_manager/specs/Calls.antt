@@ -16,6 +16,7 @@ use Rattle.cm_world.specs.declared.answer.Answer.{Answer}
 use Rattle.cm_world.specs.declared.answer.Answer.TheVariants as answer
 use Rattle.cm_world.specs.declared.answer.Refusal.{Refusal}
 use Rattle.cm_world.specs.declared.answer.Refusal.TheVariants as refusal
+use Rattle.cm_world.specs.Create.{child_with}
 use Rattle.cm_command.specs.declared.command.Command.{Command}
 use Rattle.cm_command.specs.declared.command.Command.TheVariants as command
 use Rattle.cm_answers.specs.declared.acted.ActionResult.{ActionResult}
@@ -104,7 +105,7 @@ Calls f c (command.Start t) = OnRow f c t (CallsAction f c kind.Start started_an
 Calls f c (command.Stop t) = OnRow f c t (CallsAction f c kind.Stop stopped_answer)
 Calls f c (command.Shutdown t) = OnRow f c t (λ i. ComesToAnswer answer.Shut (Shuts f c false i))
 Calls f c (command.Create t coll name url gives) =
-    OnRow f c t (CallsEventThen f c (λ p. event.Create p coll name url gives) (OnceCreated f c))
+    OnRow f c t (CallsEventThen f c (λ p. event.Create p (child_with coll name url gives)) (OnceCreated f c))
 Calls f c (command.Destroy t) = OnRow f c t (λ i. ComesToAnswer answer.Destroyed (Destroys f c i))
 Calls f c (command.ListChildren t coll) = OnRow f c t (CallsEvent f c (λ i. event.Listing i coll))
 Calls f c (command.OpenUse t path) = OnRow f c t (CallsEvent f c (λ i. event.OpenUse i path))

@@ -10,6 +10,7 @@ use Rattle.cm_world.specs.declared.action.ActKind.{ActKind}
 use Rattle.cm_world.specs.declared.action.Finish.{Finish}
 use Rattle.cm_world.specs.declared.event.Event.{Event}
 use Rattle.cm_world.specs.declared.event.Event.TheVariants as event
+use Rattle.cm_world.specs.Create.{child_with}
 use Rattle.cm_reply.specs.Lists.{TextBytes}
 use Rattle.cm_reply.specs.States.{act_word}
 use Rattle.cm_reply.specs.Events.{mark_word, finish_text, groups_text, event_text}
@@ -84,7 +85,7 @@ event_of word.Find m = event.Find m
 event_of word.Begin x = event.Begin x.0 x.1
 event_of word.End x = event.End x.0 x.1
 event_of word.Await a = event.Await a
-event_of word.Create x = event.Create x.0 x.1.0 x.1.1.0 x.1.1.1.0 x.1.1.1.1
+event_of word.Create x = event.Create x.0 (child_with x.1.0 x.1.1.0 x.1.1.1.0 x.1.1.1.1)
 event_of word.Mark x = event.Mark x.0 x.1
 event_of word.Pick i = event.Pick i
 event_of word.Purge i = event.Purge i

@@ -32,9 +32,9 @@ event_text (event.Find moniker) = codes "find " ++ moniker_text moniker
 event_text (event.Begin kind inc) = codes "begin " ++ (act_word kind ++ (codes " " ++ decimal inc))
 event_text (event.End action finish) = codes "end " ++ (decimal action ++ (codes " " ++ finish_text finish))
 event_text (event.Await action) = codes "await " ++ decimal action
-event_text (event.Create inc coll name url gives) =
-    codes "create " ++ (decimal inc ++ (codes " " ++ (coll ++ (codes " " ++ (name ++ (codes " "
-    ++ (url ++ groups_text gives)))))))
+event_text (event.Create inc child) =
+    codes "create " ++ (decimal inc ++ (codes " " ++ (child.coll ++ (codes " " ++ (child.name ++ (codes " "
+    ++ (child.url ++ groups_text child.gives)))))))
 event_text (event.Mark doomed inc) = codes "mark " ++ (mark_word doomed ++ (codes " " ++ decimal inc))
 event_text (event.Pick inc) = codes "pick " ++ decimal inc
 event_text (event.Purge inc) = codes "purge " ++ decimal inc

@@ -45,8 +45,8 @@ IsLegible (event.Find m) = IsTarget (target.Named m)
 IsLegible (event.Begin kind i) = i < 2 ^ 64
 IsLegible (event.End a f) = (a < 2 ^ 64) × IsLegibleFinish f
 IsLegible (event.Await a) = a < 2 ^ 64
-IsLegible (event.Create i coll name url gives) =
-    (i < 2 ^ 64) × IsName coll × IsName name × IsUrlText url × All IsWritableGive gives
+IsLegible (event.Create i child) =
+    (i < 2 ^ 64) × IsName child.coll × IsName child.name × IsUrlText child.url × All IsWritableGive child.gives
 IsLegible (event.Mark doomed i) = i < 2 ^ 64
 IsLegible (event.Pick i) = i < 2 ^ 64
 IsLegible (event.Purge i) = i < 2 ^ 64

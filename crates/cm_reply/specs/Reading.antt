@@ -15,6 +15,7 @@ use Rattle.cm_world.specs.declared.action.Outcome.TheVariants as outcome
 use Rattle.cm_decl.specs.declared.rows.Give.{Give}
 use Rattle.cm_world.specs.declared.event.Event.{Event}
 use Rattle.cm_world.specs.declared.event.Event.TheVariants.{Create}
+use Rattle.cm_world.specs.declared.event.NewChild.{NewChild}
 use Rattle.cm_world.specs.declared.event.Target.{Target}
 use Rattle.cm_world.specs.declared.event.Target.TheVariants.{Inc}
 use Rattle.cm_command.specs.declared.tokens.WordFault.{WordFault}
@@ -94,11 +95,10 @@ FindsEvent v t result = (x : Told v) → IsLegible (event_of v x) → t ≡ told
     → IsOr result (event_of v x)
 
 -- the event creates a child as the command `create` would, whose parent is named by its incarnation
-pub record IsCreatedIn (parent : Target) (coll name url : TextBytes) (gives : List Give)
-    (e : Event) : Type 0 where
+pub record IsCreatedIn (parent : Target) (child : NewChild) (e : Event) : Type 0 where
   pub inc : ℕ
   pub by_number : parent ≡ Inc inc
-  pub event : e ≡ Create inc coll name url gives
+  pub event : e ≡ Create inc child
 
 -- ---- what stands before the arrow
 

@@ -31,6 +31,7 @@ use Rattle.cm_world.specs.declared.route.Provider.TheVariants as provider
 use Rattle.cm_world.specs.declared.route.Route.{Route as WholeRoute}
 use Rattle.cm_world.specs.declared.route.Why.{Why}
 use Rattle.cm_world.specs.declared.route.Why.TheVariants as why
+use Rattle.cm_world.specs.Create.{child_with}
 use Rattle.cm_command.specs.declared.command.Command.TheVariants as command
 use Rattle.cm_reply.specs.Lists.{TextBytes}
 use Rattle.cm_reply.specs.Routes.{why_word}
@@ -230,7 +231,7 @@ events =
     ∷ event.Begin Stop 5
     ∷ event.End 9 (Other outcome.Killed)
     ∷ event.Await 9
-    ∷ event.Create 2 (codes "k") (codes "a") (codes "#meta/a.cm") (give ∷ [])
+    ∷ event.Create 2 (child_with (codes "k") (codes "a") (codes "#meta/a.cm") (give ∷ []))
     ∷ event.Mark true 5
     ∷ event.Mark false 5
     ∷ event.Pick 5

@@ -1,6 +1,7 @@
 //! The texts of events.
 
 ghost use Rattle.std.specs.Prelude.{OnOk};
+ghost use Rattle.cm_world.specs.declared.event.Event.TheVariants as event;
 ghost use Rattle.cm_reply.specs.ListsInside.{GainsText};
 ghost use Rattle.cm_reply.specs.Events as spec;
 
@@ -11,7 +12,7 @@ use cm_command::writer::push_gives;
 use cm_decl::Give;
 use cm_names::{List, Memory, Text};
 use cm_read::write_decl;
-use cm_world::{Event, Finish};
+use cm_world::{Event, Finish, NewChild};
 
 /// Puts the event at the end as a journal has it. `Err` where memory runs out.
 pub fn push_event(text: &mut String, event: &Event) -> Result<(), Memory>
@@ -32,10 +33,7 @@ pub fn push_event(text: &mut String, event: &Event) -> Result<(), Memory>
             push_finish(text, finish)
         }
         Event::Await(action) => push_number(text, "await", *action),
-        Event::Create(inc, coll, name, url, gives) => {
-            push_value(text, format_args!("create {inc} {coll} {name} {url}"))?;
-            push_groups(text, gives)
-        }
+        Event::Create(inc, child) => push_creation(text, *inc, child.get()),
         Event::Mark(true, inc) => push_number(text, "mark doomed", *inc),
         Event::Mark(false, inc) => push_number(text, "mark closing", *inc),
         Event::Pick(inc) => push_number(text, "pick", *inc),
@@ -50,6 +48,20 @@ pub fn push_event(text: &mut String, event: &Event) -> Result<(), Memory>
         Event::Tail(inc, from) => push_numbers(text, "tail", *inc, *from),
         Event::Reap(inc) => push_number(text, "reap", *inc),
     }
+}
+
+/// Puts the creation of a child of that instance at the end.
+fn push_creation(text: &mut String, inc: u64, child: &NewChild) -> Result<(), Memory>
+    ensures { OnOk result (GainsText text.old text.new (spec.event_text (event.Create inc child.now))) }
+{
+    let NewChild {
+        coll,
+        name,
+        url,
+        gives,
+    } = child;
+    push_value(text, format_args!("create {inc} {coll} {name} {url}"))?;
+    push_groups(text, gives)
 }
 
 /// Puts what is offered to a created child at the end, as a command writes it.

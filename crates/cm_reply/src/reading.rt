@@ -19,9 +19,8 @@ use crate::event_words::{EventWord, event_word};
 use crate::outcome_words::finish;
 use cm_command::words::cut;
 use cm_command::{Command, CommandFault, read_command};
-use cm_decl::Give;
-use cm_names::{Bytes, List, Name, Text};
-use cm_world::{Event, Target};
+use cm_names::{Boxed, Bytes, List};
+use cm_world::{Event, NewChild, Target};
 use std::alloc::Global;
 
 /// The most bytes that are read after the word `create`: with `create @` in front they are fewer than
@@ -192,18 +191,11 @@ fn created_by(alloc: Global, rest: &[u8]) -> Result<Command, EntryFault>
 }
 
 /// The event of a creation, if its parent is told by its number.
-fn created(
-    parent: Target,
-    coll: Name,
-    name: Name,
-    url: Text,
-    gives: List<Give>,
-) -> Result<Event, EntryFault>
-    ensures { MatchResult result (IsCreatedIn parent coll name url gives)
-        (λ e. (i : ℕ) → parent ≡ Inc i → ⊥) }
+fn created(parent: Target, child: Boxed<NewChild>) -> Result<Event, EntryFault>
+    ensures { MatchResult result (IsCreatedIn parent child) (λ e. (i : ℕ) → parent ≡ Inc i → ⊥) }
 {
     match &parent {
-        Target::Inc(inc) => Ok(Event::Create(*inc, coll, name, url, gives)),
+        Target::Inc(inc) => Ok(Event::Create(*inc, child)),
         Target::Named(_moniker) => Err(EntryFault::NotAnEntry),
     }
 }
@@ -225,7 +217,18 @@ fn create(alloc: Global, rest: &[u8]) -> Result<Event, EntryFault>
             name,
             url,
             gives,
-        } => created(parent, coll, name, url, gives),
+        } => {
+            let child = Boxed::new(
+                alloc,
+                NewChild {
+                    coll,
+                    name,
+                    url,
+                    gives,
+                },
+            )?;
+            created(parent, child)
+        }
         other => {
             drop(other);
             Err(EntryFault::NotAnEntry)

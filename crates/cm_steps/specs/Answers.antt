@@ -9,6 +9,7 @@ use Rattle.cm_world.specs.declared.action.ActKind.{ActKind}
 use Rattle.cm_world.specs.declared.reply.Reply.{Reply}
 use Rattle.cm_world.specs.declared.reply.Reply.TheVariants as reply
 use Rattle.cm_world.specs.declared.event.Event.TheVariants.{Begin, Create, Mark, Exited}
+use Rattle.cm_world.specs.declared.event.NewChild.{NewChild}
 use Rattle.cm_world.specs.Rows.{is_live, subtree, is_subtree_shut}
 use Rattle.cm_world.specs.Begin.{begin_reply, begin_idle}
 use Rattle.cm_world.specs.Reports.{exit_reply}
@@ -79,8 +80,7 @@ ExitsBy w i (exit.Leaves m) = exit_reply w.rows i ≡ Some (reply.Left m)
 
 -- a reply to a create that changes nothing but the count of entries
 abbrev pub IsQuietCreate : Reply → Type 0
-IsQuietCreate r =
-    (p : ℕ) (coll name url : List ℕ) (gives : List Give) → moves (Create p coll name url gives) r ≡ false
+IsQuietCreate r = (p : ℕ) (child : NewChild) → moves (Create p child) r ≡ false
 
 -- the answer to a create, by whether the child may be created
 abbrev pub IsAnswerOf : MayCreate → CreateAnswer → Type 0

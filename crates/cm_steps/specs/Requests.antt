@@ -4,6 +4,7 @@ use Rattle.std.specs.Prelude.{◌≡◌, ℕ, Result, Err, IsTrue, IfOk, IfErr, 
 use Rattle.cm_world.specs.declared.event.Event.{Event}
 use Rattle.cm_world.specs.declared.event.Event.TheVariants as event
 use Rattle.cm_world.specs.declared.reply.Reply.{Reply}
+use Rattle.cm_world.specs.Create.{child_with}
 use Rattle.cm_world.specs.Step.{may_close, may_purge}
 use Rattle.cm_world.specs.World.{World}
 use Rattle.cm_laws.specs.Story.{Story, AddsEntry, world_of}
@@ -22,7 +23,8 @@ use Rattle.cm_steps.specs.Steps.{WaitsToBegin, WaitsToExit, WaitsToPick}
 -- the event by which this request is made of a row
 abbrev pub event_for : Request → ℕ → Event
 event_for (request.Begin kind) = λ i. event.Begin kind i
-event_for (request.Create coll name url gives) = λ i. event.Create i coll.now name.now url.now gives.now
+event_for (request.Create coll name url gives) = λ i.
+    event.Create i (child_with coll.now name.now url.now gives.now)
 event_for (request.Mark doom) = λ i. event.Mark doom i
 event_for (request.Route path) = λ i. event.Route i path.now
 event_for (request.OpenUse path) = λ i. event.OpenUse i path.now

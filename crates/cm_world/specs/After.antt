@@ -92,8 +92,8 @@ moved w caller (Begin kind i) (reply.Begun work) = with_action w caller kind i
 moved w caller (Begin kind i) (reply.Joined a) = with_joins w (joined caller a w.joins)
 moved w caller (End a finish) (reply.Ended o) = with_end w a finish o
 moved w caller (Await a) (reply.Ended o) = with_joins w (unjoined caller a w.joins)
-moved w caller (Create p coll name url gives) (reply.Created i) =
-    with_row w (created_row i p coll name url gives)
+moved w caller (Create p child) (reply.Created i) =
+    with_row w (created_row i p child.coll child.name child.url child.gives)
 moved w caller (Mark doom i) reply.Marked =
     with_rows w (changed i (if doom then set_doomed else set_closing) w.rows)
 moved w caller (Pick t) (reply.Stopping work) = with_action w caller Stop work.inc

@@ -12,12 +12,17 @@ use Rattle.cm_decl.specs.Dynamic.{bad_give}
 use Rattle.cm_decl.specs.Graph.{StrongOn, is_strong_edge}
 use Rattle.cm_decl.specs.Cycle.{IsPickedCycle}
 use Rattle.cm_decl.specs.Reach.{NoCycle}
+use Rattle.cm_world.specs.declared.event.NewChild.{NewChild}
 use Rattle.cm_world.specs.declared.row.Row.{Row}
 use Rattle.cm_world.specs.declared.reply.Reply.{Reply}
 use Rattle.cm_world.specs.declared.reply.Reply.TheVariants.{Gone, Closing, Need, NoCollection, Exists}
 use Rattle.cm_world.specs.declared.reply.Reply.TheVariants.{OffersRefused, BadOffer, Cycle, Full, Created}
 use Rattle.cm_world.specs.Rows.{decl_of, child_of, has_parent, is_gone, is_closed}
 use Rattle.cm_world.specs.World.{new_row, rows_fit}
+
+-- what a child is created with: its collection, its name there, its URL, and what it alone is offered
+abbrev pub child_with : List ℕ → List ℕ → List ℕ → List Give → NewChild
+child_with coll name url gives = record { coll = coll; name = name; url = url; gives = gives }
 
 -- the name of a child in a collection: the collection's, and its own
 abbrev pub dynamic_name : List ℕ → List ℕ → ChildName

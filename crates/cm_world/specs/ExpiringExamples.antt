@@ -13,6 +13,7 @@ use Rattle.cm_world.specs.declared.event.Event.TheVariants.{Find, Begin, End, Ma
 use Rattle.cm_world.specs.declared.event.Event.TheVariants.{Exited, Reap}
 use Rattle.cm_world.specs.declared.reply.Reply.TheVariants as reply
 use Rattle.cm_world.specs.declared.reply.Entry.{Entry}
+use Rattle.cm_world.specs.Create.{child_with}
 use Rattle.cm_world.specs.Examples.{x, entry, entry_of, at_root, root_url, resolving}
 use Rattle.cm_world.specs.ShutdownExamples.{k, at_x, working}
 
@@ -34,7 +35,7 @@ stopping_entries =
     ∷ entry (End 1 (Resolved root_url (collecting_decl Transient))) (reply.Ended outcome.Resolved)
     ∷ entry (Begin Start 0) (reply.Begun (root_work 2))
     ∷ entry (End 2 (Other outcome.Started)) (reply.Ended outcome.Started)
-    ∷ entry (Create 0 k x (35 ∷ x) []) (reply.Created 1)
+    ∷ entry (Create 0 (child_with k x (35 ∷ x) [])) (reply.Created 1)
     ∷ entry (Begin Stop 0) (reply.Begun (root_work 3))
     ∷ []
 
@@ -62,7 +63,7 @@ abbrev pub once_entries : List Entry
 once_entries =
     entry (Begin Resolve 0) (reply.Begun (resolving 1 0 at_root [] (114 ∷ [])))
     ∷ entry (End 1 (Resolved root_url (collecting_decl SingleRun))) (reply.Ended outcome.Resolved)
-    ∷ entry (Create 0 k x (35 ∷ x) []) (reply.Created 1)
+    ∷ entry (Create 0 (child_with k x (35 ∷ x) [])) (reply.Created 1)
     ∷ entry (Begin Resolve 1) (reply.Begun (resolving 2 1 at_x root_url (35 ∷ x)))
     ∷ entry (End 2 (Resolved x no_decl)) (reply.Ended outcome.Resolved)
     ∷ entry (Begin Start 1) (reply.Begun (working 3))

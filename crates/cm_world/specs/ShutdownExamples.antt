@@ -16,6 +16,7 @@ use Rattle.cm_world.specs.declared.action.Work.{Work}
 use Rattle.cm_world.specs.declared.event.Event.TheVariants.{Begin, End, Mark, Pick, Purge, Create}
 use Rattle.cm_world.specs.declared.reply.Reply.TheVariants as reply
 use Rattle.cm_world.specs.declared.reply.Entry.{Entry}
+use Rattle.cm_world.specs.Create.{child_with}
 use Rattle.cm_world.specs.Examples.{c, l, s, x, s_path, entry, entry_of, at_root, root_url, resolving}
 use Rattle.cm_world.specs.RouteExamples.{resolved_row}
 
@@ -49,7 +50,7 @@ abbrev pub doomed_entries : List Entry
 doomed_entries =
     entry (Begin Resolve 0) (reply.Begun (resolving 1 0 at_root [] (114 ∷ [])))
     ∷ entry (End 1 (Resolved root_url k_decl)) (reply.Ended outcome.Resolved)
-    ∷ entry (Create 0 k x (35 ∷ x) []) (reply.Created 1)
+    ∷ entry (Create 0 (child_with k x (35 ∷ x) [])) (reply.Created 1)
     ∷ entry (Begin Resolve 1) (reply.Begun (resolving 2 1 at_x root_url (35 ∷ x)))
     ∷ entry (End 2 (Resolved x no_decl)) (reply.Ended outcome.Resolved)
     ∷ entry (Begin Start 1) (reply.Begun (working 3))

@@ -104,8 +104,8 @@ Allowed w caller (Find m) r = r ≡ found_from w.rows 0 [] m.parts
 Allowed w caller (Begin kind i) r = begin_reply w.rows w.next_action kind i ≡ Some r
 Allowed w caller (End a finish) r = r ≡ reply.Ended (outcome_by w.frame.limits.rows w.rows w.next_inc finish)
 Allowed w caller (Await a) r = option_map reply.Ended (outcome_of w.acts a) ≡ Some r
-Allowed w caller (Create p coll name url gives) r =
-    IsCreateReply w.frame.limits.rows w.rows w.next_inc p coll name gives r
+Allowed w caller (Create p child) r =
+    IsCreateReply w.frame.limits.rows w.rows w.next_inc p child.coll child.name child.gives r
 Allowed w caller (Mark doom i) r = r ≡ mark_reply w.rows doom i
 Allowed w caller (Pick t) r = IsPickReply w.rows w.next_action t r
 Allowed w caller (Purge i) r = r ≡ purge_reply w.rows i

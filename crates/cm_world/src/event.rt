@@ -2,7 +2,7 @@
 
 use crate::{ActKind, Finish};
 use cm_decl::Give;
-use cm_names::{CapPath, List, Moniker, Name, Text};
+use cm_names::{Boxed, CapPath, List, Moniker, Name, Text};
 
 /// Which instance a command means.
 pub enum Target {
@@ -22,6 +22,19 @@ impl Drop for Target {
     }
 }
 
+/// What a child is created with.
+#[derive(Drop)]
+pub struct NewChild {
+    /// The collection that it comes into.
+    pub coll: Name,
+    /// Its name there.
+    pub name: Name,
+    /// Its URL.
+    pub url: Text,
+    /// What is offered to it alone.
+    pub gives: List<Give>,
+}
+
 /// One event of a realm tree, which is made as a whole or not at all. A number is the
 /// incarnation of an instance, unless the variant says otherwise.
 pub enum Event {
@@ -33,9 +46,8 @@ pub enum Event {
     End(u64, Finish),
     /// Takes the outcome of the action of this number, which the caller joined.
     Await(u64),
-    /// Creates a child of an instance, in a collection, by a name, with a URL and with offers
-    /// to it alone: `CreateChild` of `fuchsia.component.Realm`.
-    Create(u64, Name, Name, Text, List<Give>),
+    /// Creates a child of an instance in a collection: `CreateChild` of `fuchsia.component.Realm`.
+    Create(u64, Boxed<NewChild>),
     /// Marks an instance: where true is given to be destroyed, else to be shut down.
     Mark(bool, u64),
     /// Picks one instance to stop next, so that the one given shuts down with all below it.
@@ -71,7 +83,7 @@ impl Drop for Event {
         match self {
             Event::Find(_) => {}
             Event::End(_, _) => {}
-            Event::Create(_, _, _, _, _) => {}
+            Event::Create(_, _) => {}
             Event::Route(_, _) => {}
             Event::OpenUse(_, _) => {}
             Event::OpenExposed(_, _) => {}

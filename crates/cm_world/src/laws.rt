@@ -19,6 +19,7 @@ ghost use Rattle.cm_world.specs.Legal.{Legal};
 ghost use Rattle.cm_world.specs.Laws as laws;
 ghost use Rattle.cm_world.specs.LawsInside as laws_inside;
 ghost use Rattle.cm_world.specs.Worlds as worlds;
+ghost use Rattle.cm_world.specs.Create.{child_with};
 ghost use Rattle.cm_world.specs.Ending as ending;
 ghost use Rattle.cm_world.specs.Examples.{route_entries, unoffered_entries, unexposed_entries, logger_look};
 ghost use Rattle.cm_world.specs.Examples.{client_surveyed, x_unexposed, at_root, at_child, c, s, x, s_path};
@@ -156,7 +157,7 @@ pub fn answers_resolved()
     ensures static_child { Allowed worlds.resolved 0 (event.Mark true 1) reply.NotDynamic }
     ensures root { Allowed worlds.resolved 0 (event.Mark true 0) reply.NotDynamic }
     ensures closing { Allowed worlds.resolved 0 (event.Mark false 0) reply.Marked }
-    ensures create { Allowed worlds.resolved 0 (event.Create 0 k x x []) reply.NoCollection }
+    ensures create { Allowed worlds.resolved 0 (event.Create 0 (child_with k x x [])) reply.NoCollection }
     ensures listing { Allowed worlds.resolved 0 (event.Listing 0 k) reply.NoCollection }
     ensures purge { Allowed worlds.resolved 0 (event.Purge 9) reply.PurgedBefore }
     ensures show { Allowed worlds.resolved 0 (event.Show 1) (reply.Shown logger_look) }
@@ -169,13 +170,13 @@ pub fn answers_resolved()
 /// Replies in a realm with a child in a collection: before it is created, while it lives, once
 /// it is doomed, and where its parent is closing.
 pub fn answers_created()
-    ensures offers { Allowed worlds.collecting 0 (event.Create 0 k x x given) reply.OffersRefused }
-    ensures exists { Allowed worlds.created 0 (event.Create 0 k x x []) (reply.Exists 1) }
+    ensures offers { Allowed worlds.collecting 0 (event.Create 0 (child_with k x x given)) reply.OffersRefused }
+    ensures exists { Allowed worlds.created 0 (event.Create 0 (child_with k x x [])) (reply.Exists 1) }
     ensures listed { Allowed worlds.created 0 (event.Listing 0 k) (reply.Listed (x_kid ∷ [])) }
     ensures unlisted { Allowed worlds.doomed 0 (event.Listing 0 k) (reply.Listed []) }
     ensures unfound { Allowed worlds.doomed 0 (event.Find at_x) (reply.NotFound at_root) }
     ensures gone { Allowed worlds.doomed 0 (event.OpenUse 1 s_path) (reply.Gone 1) }
     ensures again { Allowed worlds.doomed 0 (event.Mark true 1) reply.Already }
-    ensures closing { Allowed worlds.closing 0 (event.Create 0 k x x []) (reply.Closing 0) }
+    ensures closing { Allowed worlds.closing 0 (event.Create 0 (child_with k x x [])) (reply.Closing 0) }
     ensures shut { Allowed worlds.closing 0 (event.Begin kind.Start 0) (reply.Shut 0) }
 {}

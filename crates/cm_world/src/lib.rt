@@ -42,7 +42,7 @@ pub mod view;
 
 pub use action::{Act, ActKind, FaultNote, Finish, Join, Outcome, Work};
 pub use answer::{Answer, Checked, Refusal};
-pub use event::{Event, Target};
+pub use event::{Event, NewChild, Target};
 pub use frame::{Builtin, Frame, Limits};
 pub use happening::{HappenKind, Happening};
 pub use reply::{Entry, Reply};

@@ -84,7 +84,7 @@ module _ (w : World) (small : w.next_inc < 2 ^ 64) where
   fits_moved caller (Begin kind i) (reply.Joined a) it = small
   fits_moved caller (End a f) (reply.Ended o) it = ends_by a f o (act_of w.acts a) (same_outcome it)
   fits_moved caller (Await a) (reply.Ended o) it = small
-  fits_moved caller (Create p coll name url gives) (reply.Created i) it = created p coll name gives i it
+  fits_moved caller (Create p child) (reply.Created i) it = created p child.coll child.name child.gives i it
   fits_moved caller (Mark doom i) reply.Marked it = small
   fits_moved caller (Pick t) (reply.Stopping work) it = small
   fits_moved caller (Pick t) (reply.ShutDown i) it = small

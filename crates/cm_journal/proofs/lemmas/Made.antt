@@ -15,6 +15,7 @@ use Rattle.cm_world.specs.declared.reply.Entry.{Entry}
 use Rattle.cm_world.specs.declared.reply.Reply.{Reply}
 use Rattle.cm_world.specs.declared.reply.Reply.TheVariants as reply
 use Rattle.cm_world.specs.declared.report.SurveyRow.{SurveyRow}
+use Rattle.cm_world.specs.Create.{child_with}
 use Rattle.cm_command.specs.Written.{IsTarget}
 use Rattle.cm_command.specs.WrittenInside.{IsWritable}
 use Rattle.cm_command.specs.declared.command.Command.{Command}
@@ -204,7 +205,7 @@ module _ (f : Frame) (c : ℕ) where
   calls (command.Stop t) a b r w is h = on_row t _ a b r w (acted _ _) is h
   calls (command.Shutdown t) a b r w is h = on_row t _ a b r w (λ i a b r is h. shuts false i is.1 h) is h
   calls (command.Create t coll name url gives) a b r w is h =
-      on_row t _ a b r w.0 (tried_then (λ p. event.Create p coll name url gives) _ (λ i. (w.1, w.2, w.3, w.4)) created) is h
+      on_row t _ a b r w.0 (tried_then (λ p. event.Create p (child_with coll name url gives)) _ (λ i. (w.1, w.2, w.3, w.4)) created) is h
   calls (command.Destroy t) a b r w is h = on_row t _ a b r w (λ i a b r is h. destroys i is.1 h) is h
   calls (command.ListChildren t coll) a b r w is h = on_row t _ a b r w.0 (tried (λ i. event.Listing i coll) (λ i. tt)) is h
   calls (command.OpenUse t path) a b r w is h = on_row t _ a b r w.0 (tried (λ i. event.OpenUse i path) (λ i. tt)) is h

@@ -208,8 +208,8 @@ event_line (event.Find m) h = join (lit (codes "find ") refl) (clean {t = monike
 event_line (event.Begin k i) h = join (lit (codes "begin ") refl) (join (lit (act_word k) (act_line k)) (join space (num i)))
 event_line (event.End a f) h = noted (codes "end ") a refl (finish_line f h.1)
 event_line (event.Await a) h = numbered (codes "await ") a refl
-event_line (event.Create i coll n u gives) h =
-    noted (codes "create ") i refl (join (name coll h.1) (join space (join (name n h.2) (join space (join (url u h.3) (spaced_line (flat_map give_words gives) (gives_lines gives h.4)))))))
+event_line (event.Create i child) h =
+    noted (codes "create ") i refl (join (name child.coll h.1) (join space (join (name child.name h.2) (join space (join (url child.url h.3) (spaced_line (flat_map give_words child.gives) (gives_lines child.gives h.4)))))))
 event_line (event.Mark doomed i) h = join (lit (codes "mark ") refl) (join (lit (mark_word doomed) (mark_line doomed)) (join space (num i)))
 event_line (event.Pick i) h = numbered (codes "pick ") i refl
 event_line (event.Purge i) h = numbered (codes "purge ") i refl

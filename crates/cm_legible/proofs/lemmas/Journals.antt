@@ -100,7 +100,7 @@ finish_is (finish.Other o) h = tt
 event_is : (e : Event) → IsLegible e → IsTellable e
 event_is (event.Find m) h = h.0
 event_is (event.End a f) h = finish_is f h.1
-event_is (event.Create i coll name u gives) h = (h.1, h.2, url_is u h.3, λ k x lt. give_is _ (h.4 k x lt))
+event_is (event.Create i child) h = (h.1, h.2, url_is child.url h.3, λ k x lt. give_is _ (h.4 k x lt))
 event_is _ h = tt
 
 -- A legible frame can be told of.

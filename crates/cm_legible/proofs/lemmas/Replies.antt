@@ -352,8 +352,8 @@ reply_told w c (Find m) r h k it = is_told _ r (found_told w.rows 0 [] m.parts (
 reply_told w c (Begin kind i) r h k it = said (begin_reply w.rows w.next_action kind i) r (begin_told w.rows w.next_action i kind h.rows) it
 reply_told w c (End a f) r h k it = is_told _ r tt it
 reply_told w c (Await a) r h k it = said (option_map reply.Ended (outcome_of w.acts a)) r (outcome_told (outcome_of w.acts a)) it
-reply_told w c (Create p coll name url gives) r h k it =
-    create_told w.frame.limits.rows w.rows w.next_inc p (dynamic_name coll name) gives (refused_create w.rows p coll name gives) r h.rows (k.1, k.0) (refused_told w.rows p coll name gives) it
+reply_told w c (Create p child) r h k it =
+    create_told w.frame.limits.rows w.rows w.next_inc p (dynamic_name child.coll child.name) child.gives (refused_create w.rows p child.coll child.name child.gives) r h.rows (k.1, k.0) (refused_told w.rows p child.coll child.name child.gives) it
 reply_told w c (Mark doom i) r h k it = is_told _ r (mark_told w.rows doom i) it
 reply_told w c (Pick t) r h k it = pick_told w.rows w.next_action t r h.rows it
 reply_told w c (Purge i) r h k it = is_told _ r (either (is_live w.rows i) (reply.Purged (map (lost_of w.rows) (subtree w.rows i))) reply.PurgedBefore (purged_told w.rows i h.rows) tt) it

@@ -140,9 +140,9 @@ moved_tellable w c (Begin kind i) (reply.Begun work) told h =
 moved_tellable w c (Begin kind i) (reply.Joined a) told h = record { rows = h.rows; builtins = h.builtins }
 moved_tellable w c (End a f) (reply.Ended o) told h = end_tellable w a f o (act_of w.acts a) told h
 moved_tellable w c (Await a) (reply.Ended o) told h = record { rows = h.rows; builtins = h.builtins }
-moved_tellable w c (Create p coll name url gives) (reply.Created i) told h = record {
-  rows = All-append IsTellableRow w.rows (created_row i p coll name url gives ∷ []) h.rows
-      (All-cons IsTellableRow (created_row i p coll name url gives) [] (record { name = (told.1, told.0); url = told.2; decl = tt; gives = told.3 }) (All-nil IsTellableRow));
+moved_tellable w c (Create p child) (reply.Created i) told h = record {
+  rows = All-append IsTellableRow w.rows (created_row i p child.coll child.name child.url child.gives ∷ []) h.rows
+      (All-cons IsTellableRow (created_row i p child.coll child.name child.url child.gives) [] (record { name = (told.1, told.0); url = told.2; decl = tt; gives = told.3 }) (All-nil IsTellableRow));
   builtins = h.builtins;
 }
 moved_tellable w c (Mark doom i) reply.Marked told h = record { rows = change_rows i (cond doom set_doomed set_closing) w.rows (leaves_mark doom) h.rows; builtins = h.builtins }

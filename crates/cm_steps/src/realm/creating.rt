@@ -2,7 +2,7 @@
 //! (fuchsia.dev).
 
 ghost use Rattle.std.specs.Prelude.{◌≡◌, IfOk, IfErr, OnOk, OnErr};
-ghost use Rattle.cm_world.specs.Create.{IsCreateReply};
+ghost use Rattle.cm_world.specs.Create.{IsCreateReply, child_with};
 ghost use Rattle.cm_dynamic.specs.Laws.{CanTakeChild};
 ghost use Rattle.cm_laws.specs.Story.{world_of, AddsEntry};
 ghost use Rattle.cm_steps.specs.Requests.{Steps};
@@ -16,8 +16,8 @@ use crate::request::{EventRef, Request};
 use crate::rooms::add_row;
 use cm_decl::Give;
 use cm_laws::trees_stay_sound;
-use cm_names::{List, Name, Text};
-use cm_world::{Event, Reply};
+use cm_names::{Boxed, List, Name, Text};
+use cm_world::{Event, NewChild, Reply};
 use std::alloc::Global;
 
 impl Realm {
@@ -45,7 +45,8 @@ impl Realm {
         url: Text,
         gives: List<Give>,
     ) -> Result<Reply, NoStep>
-        ensures { Steps self.old self.new caller (Event.Create parent coll name url gives) result }
+        ensures { Steps self.old self.new caller (Event.Create parent (child_with coll name url gives))
+            result }
     {
         let request = Request::Create(&coll, &name, &url, &gives);
         self.step(alloc, caller, EventRef::Ask(request, parent))
@@ -57,20 +58,25 @@ impl Realm {
         alloc: Global,
         caller: u32,
         parent: u64,
-        coll: Name,
-        name: Name,
-        url: Text,
-        gives: List<Give>,
+        child: Boxed<NewChild>,
     ) -> Result<Reply, NoStep>
         ensures step { IfOk result (λ reply.
-            AddsEntry self.old self.new caller (Event.Create parent coll name url gives) reply) }
+            AddsEntry self.old self.new caller (Event.Create parent child) reply) }
         ensures refused { IfErr result (RefusesQuiet self.old) }
         ensures err { OnErr result (self.new ≡ self.old) }
     {
         trees_stay_sound();
-        let offered = gives.as_slice();
-        let answer = create_answer(alloc, &self.table, parent, &coll, &name, offered)?;
-        self.create_by(alloc, caller, parent, coll, name, url, gives, answer)
+        let wanted = child.get();
+        let offered = wanted.gives.as_slice();
+        let answer = create_answer(
+            alloc,
+            &self.table,
+            parent,
+            &wanted.coll,
+            &wanted.name,
+            offered,
+        )?;
+        self.create_by(alloc, caller, parent, child, answer)
     }
 
     /// Takes the step that a create comes to.
@@ -79,27 +85,20 @@ impl Realm {
         alloc: Global,
         caller: u32,
         parent: u64,
-        coll: Name,
-        name: Name,
-        url: Text,
-        gives: List<Give>,
+        child: Boxed<NewChild>,
         answer: CreateAnswer,
     ) -> Result<Reply, NoStep>
         requires { let w = world_of self.old in
-            CreatesBy w.frame.limits.rows w.rows w.next_inc parent coll name gives answer }
+            CreatesBy w.frame.limits.rows w.rows w.next_inc parent child.coll child.name child.gives answer }
         ensures step { IfOk result (λ reply.
-            AddsEntry self.old self.new caller (Event.Create parent coll name url gives) reply) }
+            AddsEntry self.old self.new caller (Event.Create parent child) reply) }
         ensures room { OnOk result (RealmHasRoom self.old 1) }
         ensures refused { IfErr result (RefusesQuiet self.old) }
         ensures err { OnErr result (self.new ≡ self.old) }
     {
         match answer {
-            CreateAnswer::Quiet(reply) => {
-                self.tell(caller, Event::Create(parent, coll, name, url, gives), reply)
-            }
-            CreateAnswer::Creates => {
-                self.add_child(alloc, caller, parent, coll, name, url, gives)
-            }
+            CreateAnswer::Quiet(reply) => { self.tell(caller, Event::Create(parent, child), reply) }
+            CreateAnswer::Creates => self.add_child(alloc, caller, parent, child),
         }
     }
 
@@ -109,37 +108,37 @@ impl Realm {
         alloc: Global,
         caller: u32,
         parent: u64,
-        coll: Name,
-        name: Name,
-        url: Text,
-        gives: List<Give>,
+        child: Boxed<NewChild>,
     ) -> Result<Reply, NoStep>
         requires creates { let w = world_of self.old in
-            IsCreateReply w.frame.limits.rows w.rows w.next_inc parent coll name gives
+            IsCreateReply w.frame.limits.rows w.rows w.next_inc parent child.coll child.name child.gives
             (Reply.Created w.next_inc) }
-        requires takes { CanTakeChild (world_of self.old).rows parent coll name }
+        requires takes { CanTakeChild (world_of self.old).rows parent child.coll child.name }
         ensures step { IfOk result (λ reply.
-            AddsEntry self.old self.new caller (Event.Create parent coll name url gives) reply) }
+            AddsEntry self.old self.new caller (Event.Create parent child) reply) }
         ensures room { OnOk result (RealmHasRoom self.old 1) }
         ensures refused { IfErr result (RefusesQuiet self.old) }
         ensures err { OnErr result (self.new ≡ self.old) }
     {
+        let NewChild {
+            coll,
+            name,
+            url,
+            gives,
+        } = child.get();
         let inc = add_row(
             alloc,
             &mut self.table,
             &mut self.records.book,
             parent,
-            &coll,
-            &name,
-            &url,
-            &gives,
+            coll,
+            name,
+            url,
+            gives,
         )?;
-        self.records.put_down(
-            caller,
-            Event::Create(parent, coll, name, url, gives),
-            Reply::Created(inc),
-            false,
-        );
+        let event = Event::Create(parent, child);
+        self.records
+            .put_down(caller, event, Reply::Created(inc), false);
         Ok(Reply::Created(inc))
     }
 }

@@ -1,6 +1,7 @@
 //! The step of an event, whatever it asks.
 
 ghost use Rattle.std.specs.Prelude.{◌≡◌, IfOk, IfErr, OnErr};
+ghost use Rattle.cm_world.specs.Create.{child_with};
 ghost use Rattle.cm_laws.specs.Story.{world_of, AddsEntry};
 ghost use Rattle.cm_steps.specs.Needs.{need};
 ghost use Rattle.cm_steps.specs.Requests.{Steps, TreeAllows, RefusesEvent, event_for, event_of};
@@ -13,9 +14,33 @@ use crate::replies::reaping::reap_reply;
 use crate::replies::showing::shown;
 use crate::request::{EventRef, Request, need_of};
 use crate::told::survey_told;
+use cm_decl::Give;
 use cm_decl::copies::four;
-use cm_world::{Event, Reply};
+use cm_names::{Boxed, List, Memory, Name, Text};
+use cm_world::{Event, NewChild, Reply};
 use std::alloc::Global;
+
+/// What a child is created with, as copies. `Err` where memory runs out.
+fn child_of(
+    alloc: Global,
+    coll: &Name,
+    name: &Name,
+    url: &Text,
+    gives: &List<Give>,
+) -> Result<Boxed<NewChild>, Memory>
+    ensures { IfOk result (λ child. child ≡ child_with coll.now name.now url.now gives.now) }
+{
+    let (coll, name, url, gives) = four(coll, name, url, gives)?;
+    Boxed::new(
+        alloc,
+        NewChild {
+            coll,
+            name,
+            url,
+            gives,
+        },
+    )
+}
 
 impl Realm {
     /// Makes an event, and hands its reply back. What the event names is copied for its entry. The target
@@ -79,8 +104,8 @@ impl Realm {
         match request {
             Request::Begin(kind) => self.begin_at(alloc, caller, kind, inc),
             Request::Create(coll, name, url, gives) => {
-                let (coll, name, url, gives) = four(coll, name, url, gives)?;
-                self.create_at(alloc, caller, inc, coll, name, url, gives)
+                let child = child_of(alloc, coll, name, url, gives)?;
+                self.create_at(alloc, caller, inc, child)
             }
             Request::Mark(doom) => self.mark_at(caller, doom, inc),
             Request::Route(path) => self.ask(alloc, caller, Asking::Route, inc, path),

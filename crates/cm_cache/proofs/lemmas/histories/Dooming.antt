@@ -175,7 +175,7 @@ others_told w caller (Begin kind i) (reply.Begun work) may =
 others_told w caller (Begin kind i) (reply.Joined a) may = sym (none_still w.rows)
 others_told w caller (End a finish) (reply.Ended o) may = absurd (true≢false may)
 others_told w caller (Await a) (reply.Ended o) may = sym (none_still w.rows)
-others_told w caller (Create p coll name url gives) (reply.Created i) may = refl
+others_told w caller (Create p child) (reply.Created i) may = refl
 others_told w caller (Mark doom i) reply.Marked may = absurd (true≢false may)
 others_told w caller (Pick t) (reply.Stopping work) may =
     sym (none_changed (set_pending (Some (Stop, w.next_action))) (λ r. refl) (λ r. refl) work.inc w.rows)

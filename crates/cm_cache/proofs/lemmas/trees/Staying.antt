@@ -307,7 +307,7 @@ bare_moved w caller (Begin kind i) (reply.Joined a) up stays quiet none = refl
 bare_moved w caller (End a finish) (reply.Ended o) up stays quiet none =
     bare_end_of w a finish o (act_of w.acts a) up stays none
 bare_moved w caller (Await a) (reply.Ended o) up stays quiet none = refl
-bare_moved w caller (Create p coll name url gives) (reply.Created i) up stays quiet none = absurd (true≢false quiet)
+bare_moved w caller (Create p child) (reply.Created i) up stays quiet none = absurd (true≢false quiet)
 bare_moved w caller (Mark doom i) reply.Marked up stays quiet none = bare_marks w doom i none
 bare_moved w caller (Pick t) (reply.Stopping work) up stays quiet none =
     bare_changed (set_pending (Some (Stop, w.next_action))) (λ r. refl) work.inc w.rows

@@ -180,8 +180,8 @@ module _ (acts : List Act) where
   rows_known w caller (Begin kind i) (reply.Joined b) new all = all
   rows_known w caller (End b f) (reply.Ended o) new all = ended_rows w b f o (act_of w.acts b) all
   rows_known w caller (Await b) (reply.Ended o) new all = all
-  rows_known w caller (Create p coll name url gives) (reply.Created i) new all =
-      known_append w.rows (created_row i p coll name url gives ∷ []) all (idle_known acts (created_row i p coll name url gives) refl, tt)
+  rows_known w caller (Create p child) (reply.Created i) new all =
+      known_append w.rows (created_row i p child.coll child.name child.url child.gives ∷ []) all (idle_known acts (created_row i p child.coll child.name child.url child.gives) refl, tt)
   rows_known w caller (Mark doom i) reply.Marked new all = kept_changed i (cond doom set_doomed set_closing) w.rows (mark_keeps doom) all
   rows_known w caller (Pick t) (reply.Stopping work) new all =
       new_changed work.inc w.next_action Stop w.rows (new work.action refl) all

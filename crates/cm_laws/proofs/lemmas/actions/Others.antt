@@ -66,7 +66,7 @@ module _ (caller a : ℕ) (f : Finish) where
   may_moved w other (Pick t) (reply.Stopping work) can differ may = longer w.acts (new_act w.next_action Stop work.inc other) caller a f may
   may_moved w other (Begin kind i) (reply.Joined b) can differ may = may
   may_moved w other (Await b) (reply.Ended o) can differ may = may
-  may_moved w other (Create p coll name url gives) (reply.Created i) can differ may = may
+  may_moved w other (Create p child) (reply.Created i) can differ may = may
   may_moved w other (Mark doom i) reply.Marked can differ may = may
   may_moved w other (Pick t) (reply.ShutDown i) can differ may = may
   may_moved w other (Purge i) (reply.Purged lost) can differ may = may
@@ -129,7 +129,7 @@ module _ (caller a : ℕ) where
   join_moved w other (End b g) (reply.Ended o) differ mine = unended_by w b g o (act_of w.acts b) mine
   join_moved w other (Begin kind i) (reply.Begun work) differ mine = mine
   join_moved w other (Pick t) (reply.Stopping work) differ mine = mine
-  join_moved w other (Create p coll name url gives) (reply.Created i) differ mine = mine
+  join_moved w other (Create p child) (reply.Created i) differ mine = mine
   join_moved w other (Mark doom i) reply.Marked differ mine = mine
   join_moved w other (Pick t) (reply.ShutDown i) differ mine = mine
   join_moved w other (Purge i) (reply.Purged lost) differ mine = mine

@@ -299,8 +299,8 @@ IsTold rows r i = IsTrue (is_gone rows i) → r ≡ reply.Gone i
 -- Where the row that an event asks is gone, an allowed reply says so.
 asked_by : (w : World) (caller : ℕ) (e : Event) (r : Reply) → Allowed w caller e r → IfSome (asked_of e) (IsTold w.rows r)
 asked_by w caller (Begin kind i) r it = λ gone. gone_said (is_gone w.rows i) (reply.Gone i) r _ gone it
-asked_by w caller (Create i coll name url gives) r it = λ gone.
-    subst (λ o. CreatesUnless w.frame.limits.rows w.rows w.next_inc i (dynamic_name coll name) gives o r)
+asked_by w caller (Create i child) r it = λ gone.
+    subst (λ o. CreatesUnless w.frame.limits.rows w.rows w.next_inc i (dynamic_name child.coll child.name) child.gives o r)
     (gone_refuses (is_gone w.rows i) (reply.Gone i) _ gone) it
 asked_by w caller (RouteOf i path) r it = λ gone.
     subst (λ o. WalksUnless w.rows w.frame.builtins (UseAt i path) (routed w.rows) o r)

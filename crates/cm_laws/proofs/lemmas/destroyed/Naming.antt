@@ -416,8 +416,8 @@ reply_well w caller (Begin kind i) r orderly root it =
     said (names_well w.rows w.next_inc) (begin_reply w.rows w.next_action kind i) r (begin_well w.rows w.next_inc orderly w.next_action i kind) it
 reply_well w caller (End a finish) r orderly root it = ap (names_well w.rows w.next_inc) it
 reply_well w caller (Await a) r orderly root it = ended_well w.rows w.next_inc orderly (outcome_of w.acts a) r it
-reply_well w caller (Create p coll name url gives) r orderly root it =
-    create_well w.rows w.next_inc orderly w.frame.limits.rows p (dynamic_name coll name) gives (refused_create w.rows p coll name gives) r (refused_well w.rows w.next_inc orderly p coll name gives) it
+reply_well w caller (Create p child) r orderly root it =
+    create_well w.rows w.next_inc orderly w.frame.limits.rows p (dynamic_name child.coll child.name) child.gives (refused_create w.rows p child.coll child.name child.gives) r (refused_well w.rows w.next_inc orderly p child.coll child.name child.gives) it
 reply_well w caller (Mark doom i) r orderly root it =
     ap (names_well w.rows w.next_inc) it ∙ mark_well w.rows w.next_inc orderly doom i
 reply_well w caller (Pick t) reply.Done orderly root it = refl

@@ -182,8 +182,8 @@ module _ (w : World) (orderly : IsOrderly w.rows w.next_inc) (rooted : IsRooted 
   moves caller (Begin kind i) (reply.Joined a) can it = rooted
   moves caller (End a f) (reply.Ended o) can it = ends_by a f o (act_of w.acts a)
   moves caller (Await a) (reply.Ended o) can it = rooted
-  moves caller (Create p coll name url gives) (reply.Created i) can it =
-      rooted_more w.rows (created_row i p coll name url gives ∷ []) rooted
+  moves caller (Create p child) (reply.Created i) can it =
+      rooted_more w.rows (created_row i p child.coll child.name child.url child.gives ∷ []) rooted
   moves caller (Mark doom i) reply.Marked can it = marks doom i it
   moves caller (Pick t) (reply.Stopping work) can it =
       light work.inc (set_pending (Some (Stop, w.next_action))) (light_pending (Some (Stop, w.next_action)))

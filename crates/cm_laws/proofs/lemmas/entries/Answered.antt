@@ -239,8 +239,8 @@ plain_reply w caller (Find m) r plainly it = ap is_plain it ∙ found_plain w.ro
 plain_reply w caller (Begin kind i) r plainly it = absurd (true≢false (sym plainly))
 plain_reply w caller (End a finish) r plainly it = ap is_plain it
 plain_reply w caller (Await a) r plainly it = ended_plain (outcome_of w.acts a) r it
-plain_reply w caller (Create p coll name url gives) r plainly it =
-    creates_unless w.frame.limits.rows w.rows w.next_inc p (dynamic_name coll name) gives (refused_create w.rows p coll name gives) r (refused_passes is_plain refusals_plain w.rows p coll name gives) it
+plain_reply w caller (Create p child) r plainly it =
+    creates_unless w.frame.limits.rows w.rows w.next_inc p (dynamic_name child.coll child.name) child.gives (refused_create w.rows p child.coll child.name child.gives) r (refused_passes is_plain refusals_plain w.rows p child.coll child.name child.gives) it
 plain_reply w caller (Mark doom i) r plainly it = ap is_plain it ∙ mark_plain w.rows doom i
 plain_reply w caller (Pick t) r plainly it = absurd (true≢false (sym plainly))
 plain_reply w caller (Purge i) r plainly it = ap is_plain it ∙ if_passes is_plain (is_live w.rows i) _ _ refl refl

@@ -127,8 +127,8 @@ module _ (w : World) where
   moves caller (Begin kind i) (reply.Joined a) it = same _ refl refl
   moves caller (End a f) (reply.Ended o) it = ends_by a f o (act_of w.acts a)
   moves caller (Await a) (reply.Ended o) it = same _ refl refl
-  moves caller (Create p coll name url gives) (reply.Created i) it =
-      creates p coll name url gives i (creating w.rows w.frame.limits.rows w.next_inc p coll name gives i it)
+  moves caller (Create p child) (reply.Created i) it =
+      creates p child.coll child.name child.url child.gives i (creating w.rows w.frame.limits.rows w.next_inc p child.coll child.name child.gives i it)
   moves caller (Mark doom i) reply.Marked it = marks doom i
   moves caller (Pick t) (reply.Stopping work) it = light _ work.inc (set_pending (Some (Stop, w.next_action))) refl refl (light_pending (Some (Stop, w.next_action)))
   moves caller (Pick t) (reply.ShutDown i) it = changes _ i set_shut refl refl (λ r. refl) shut_lasting

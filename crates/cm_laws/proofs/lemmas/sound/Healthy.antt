@@ -277,8 +277,8 @@ module _ (w : World) (healthy : IsHealthy w) where
   moved_leads caller (Begin kind i) (reply.Joined a) can it = left_leads _ refl refl refl
   moved_leads caller (End a f) (reply.Ended o) can it = end_leads caller a f o can
   moved_leads caller (Await a) (reply.Ended o) can it = left_leads _ refl refl refl
-  moved_leads caller (Create p coll name url gives) (reply.Created i) can it =
-      created_leads p coll name url gives i (creating w.rows w.frame.limits.rows w.next_inc p coll name gives i it)
+  moved_leads caller (Create p child) (reply.Created i) can it =
+      created_leads p child.coll child.name child.url child.gives i (creating w.rows w.frame.limits.rows w.next_inc p child.coll child.name child.gives i it)
   moved_leads caller (Mark doom i) reply.Marked can it = marked_leads doom i it
   moved_leads caller (Pick t) (reply.Stopping work) can it = stop_leads caller t work it
   moved_leads caller (Pick t) (reply.ShutDown i) can it = shut_leads t i it

@@ -26,7 +26,7 @@ Replying e r f c a b = AddsWithinRoom f c a e r b
 apart_of : (e : Event) (r : Reply) → IsTrue (is_asked e) → IsTrue (is_plain e) → IsFalse (is_end e) × (begins e r ≡ None) × (joins e r ≡ None)
 apart_of (event.Find m) r asked plain = (refl, refl, refl)
 apart_of (event.Begin k i) r asked plain = absurd (cc plain)
-apart_of (event.Create i coll name url gives) r asked plain = (refl, refl, refl)
+apart_of (event.Create i child) r asked plain = (refl, refl, refl)
 apart_of (event.Mark doom i) r asked plain = (refl, refl, refl)
 apart_of (event.Pick i) r asked plain = absurd (cc plain)
 apart_of (event.Purge i) r asked plain = absurd (cc plain)

@@ -7,6 +7,7 @@ use Rattle.cm_world.specs.declared.event.Event.{Event}
 use Rattle.cm_world.specs.declared.event.Event.TheVariants as event
 use Rattle.cm_world.specs.declared.event.Target.{Target}
 use Rattle.cm_world.specs.declared.event.Target.TheVariants.{Named, Inc}
+use Rattle.cm_world.specs.Create.{child_with}
 use Rattle.cm_command.specs.declared.command.Command.{Command}
 use Rattle.cm_command.specs.declared.command.Command.TheVariants as command
 use Rattle.cm_command.specs.declared.command.CommandFault.{CommandFault}
@@ -45,17 +46,17 @@ pub not_memory : (f : CommandFault) (n : ℕ) → f ≡ command_fault.BadCommand
 not_memory f n bad memory = let both : command_fault.BadCommand n ≡ command_fault.Memory = sym bad ∙ memory in absurd (cc both)
 
 -- A creation that a legible command asks for is legible.
-pub created_legible : (t : TextBytes) (i : ℕ) (coll name url : TextBytes) (gives : List Give) → CommandText t (command.Create (Inc i) coll name url gives) → IsLegible (event.Create i coll name url gives)
+pub created_legible : (t : TextBytes) (i : ℕ) (coll name url : TextBytes) (gives : List Give) → CommandText t (command.Create (Inc i) coll name url gives) → IsLegible (event.Create i (child_with coll name url gives))
 created_legible t i coll name url gives is = what_is_read_lem t (command.Create (Inc i) coll name url gives) is
 
 -- what was read is legible, where its parent is told by its number
-pub created_is_legible : (t : TextBytes) (parent : Target) (coll name url : TextBytes) (gives : List Give) (result : Result Event EntryFault) → MatchResult result (IsCreatedIn parent coll name url gives) (λ f. (i : ℕ) → parent ≡ Inc i → ⊥) → CommandText t (command.Create parent coll name url gives) → IfOk result IsLegible
+pub created_is_legible : (t : TextBytes) (parent : Target) (coll name url : TextBytes) (gives : List Give) (result : Result Event EntryFault) → MatchResult result (IsCreatedIn parent (child_with coll name url gives)) (λ f. (i : ℕ) → parent ≡ Inc i → ⊥) → CommandText t (command.Create parent coll name url gives) → IfOk result IsLegible
 created_is_legible t parent coll name url gives (Err f) h said = tt
 created_is_legible t parent coll name url gives (Ok e) h said =
     subst IsLegible (sym h.event) (created_legible t h.inc coll name url gives (subst (λ a. CommandText t (command.Create a coll name url gives)) h.by_number said))
 
 -- The event that a command's text was written for is the creation that is found.
-pub created_found : (parent : Target) (coll name url : TextBytes) (gives : List Give) (result : Result Event EntryFault) (x : Told word.Create) → MatchResult result (IsCreatedIn parent coll name url gives) (λ f. (i : ℕ) → parent ≡ Inc i → ⊥) → command.Create parent coll name url gives ≡ command_of x → IsOr result (event_of word.Create x)
+pub created_found : (parent : Target) (coll name url : TextBytes) (gives : List Give) (result : Result Event EntryFault) (x : Told word.Create) → MatchResult result (IsCreatedIn parent (child_with coll name url gives)) (λ f. (i : ℕ) → parent ≡ Inc i → ⊥) → command.Create parent coll name url gives ≡ command_of x → IsOr result (event_of word.Create x)
 created_found parent coll name url gives (Err f) x h same = let by_number : parent ≡ Inc x.0 = cc same in absurd (h x.0 by_number)
 created_found parent coll name url gives (Ok e) x h same = cc (h.event, h.by_number, same)
 

@@ -103,7 +103,7 @@ each_is_told_lem (event.Find m) = record { word = word.Find; told = m; event = r
 each_is_told_lem (event.Begin k i) = record { word = word.Begin; told = (k, i); event = refl; text = refl }
 each_is_told_lem (event.End a f) = record { word = word.End; told = (a, f); event = refl; text = refl }
 each_is_told_lem (event.Await a) = record { word = word.Await; told = a; event = refl; text = refl }
-each_is_told_lem (event.Create i c n u g) = record { word = word.Create; told = (i, (c, (n, (u, g)))); event = refl; text = refl }
+each_is_told_lem (event.Create i child) = record { word = word.Create; told = (i, (child.coll, (child.name, (child.url, child.gives)))); event = refl; text = refl }
 each_is_told_lem (event.Mark d i) = record { word = word.Mark; told = (d, i); event = refl; text = refl }
 each_is_told_lem (event.Pick i) = record { word = word.Pick; told = i; event = refl; text = refl }
 each_is_told_lem (event.Purge i) = record { word = word.Purge; told = i; event = refl; text = refl }

@@ -176,7 +176,7 @@ enabled_by_both_lem w caller (event.End a f) = (
   λ it. record { act = it.0.act; there = it.0.there; pending = it.0.pending; own = it.0.own; fitting = it.0.fitting; valid = it.1 },
 )
 enabled_by_both_lem w caller (event.Await a) = (λ it. (it, tt), λ it. it.0)
-enabled_by_both_lem w caller (event.Create i c n u g) = (λ it. (it, tt), λ it. it.0)
+enabled_by_both_lem w caller (event.Create i child) = (λ it. (it, tt), λ it. it.0)
 enabled_by_both_lem w caller (event.Mark d i) = (λ it. (it, tt), λ it. it.0)
 enabled_by_both_lem w caller (event.Pick t) = (λ it. (it, tt), λ it. it.0)
 enabled_by_both_lem w caller (event.Purge i) = (λ it. (it, tt), λ it. it.0)

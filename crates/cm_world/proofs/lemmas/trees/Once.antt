@@ -60,8 +60,8 @@ replies_once w caller (Find m) r q other first second = first ∙ sym second
 replies_once w caller (Begin kind i) r q other first second = some_same r q (sym first ∙ second)
 replies_once w caller (End a finish) r q other first second = first ∙ sym second
 replies_once w caller (Await a) r q other first second = some_same r q (sym first ∙ second)
-replies_once w caller (Create p coll name url gives) r q other first second =
-    creates_unless_once w.frame.limits.rows w.rows w.next_inc p (dynamic_name coll name) gives (refused_create w.rows p coll name gives) r q first second
+replies_once w caller (Create p child) r q other first second =
+    creates_unless_once w.frame.limits.rows w.rows w.next_inc p (dynamic_name child.coll child.name) child.gives (refused_create w.rows p child.coll child.name child.gives) r q first second
 replies_once w caller (Mark doom i) r q other first second = first ∙ sym second
 replies_once w caller (Pick t) r q other first second = absurd (other tt)
 replies_once w caller (Purge i) r q other first second = first ∙ sym second

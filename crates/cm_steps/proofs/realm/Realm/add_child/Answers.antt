@@ -21,29 +21,29 @@ add_row-requires-clause-room c =
     let w : World = world_in c.self.inside in
     let here : old ≡ w = ap world_of (sym c.self.view_is) ∙ c.self.invariant.stands.world in
     let fits : rows_fit old.frame.limits.rows old.rows old.next_inc 1 ≡ true =
-    created_fits old.rows old.frame.limits.rows old.next_inc c.args.parent c.args.coll c.args.name c.args.gives old.next_inc c.requires.creates in
+    created_fits old.rows old.frame.limits.rows old.next_inc c.args.parent c.args.child.coll c.args.child.name c.args.child.gives old.next_inc c.requires.creates in
     subst (λ n. rows_fit n w.rows w.next_inc 1 ≡ true) (sym c.self.invariant.rows)
     (subst (λ (v : World). rows_fit v.frame.limits.rows v.rows v.next_inc 1 ≡ true) here fits)
 
 pub add_row-requires-clause-takes : goal.add_row-requires-clause-takes
 add_row-requires-clause-takes c =
-    subst (λ (v : World). CanTakeChild v.rows c.args.parent c.args.coll c.args.name) (ap world_of (sym c.self.view_is) ∙ c.self.invariant.stands.world) c.requires.takes
+    subst (λ (v : World). CanTakeChild v.rows c.args.parent c.args.child.coll c.args.child.name) (ap world_of (sym c.self.view_is) ∙ c.self.invariant.stands.world) c.requires.takes
 
 pub invariant_of-self-2 : goal.invariant_of-self-2
 invariant_of-self-2 c =
     let w : World = world_in c.self.inside in
     let here : world_of c.args.self.now ≡ w = ap world_of (sym c.self.view_is) ∙ c.self.invariant.stands.world in
     let inc : c.in_ok-inc.inc ≡ w.next_inc = c.in_ok-inc.ensures.inc in
-    let e : Entry = entry_of c.args.caller (event.Create c.args.parent c.args.coll c.args.name c.args.url c.args.gives) (reply.Created c.in_ok-inc.inc) in
-    let row : Row = created_row w.next_inc c.args.parent c.args.coll c.args.name c.args.url c.args.gives in
+    let e : Entry = entry_of c.args.caller (event.Create c.args.parent c.args.child) (reply.Created c.in_ok-inc.inc) in
+    let row : Row = created_row w.next_inc c.args.parent c.args.child.coll c.args.child.name c.args.child.url c.args.child.gives in
     let creates =
-    subst (λ (v : World). IsCreateReply v.frame.limits.rows v.rows v.next_inc c.args.parent c.args.coll c.args.name c.args.gives (reply.Created v.next_inc)) here c.requires.creates in
+    subst (λ (v : World). IsCreateReply v.frame.limits.rows v.rows v.next_inc c.args.parent c.args.child.coll c.args.child.name c.args.child.gives (reply.Created v.next_inc)) here c.requires.creates in
     kept_rows c.self.inside _ e (w.rows ++ row ∷ []) (w.next_inc + 1) c.self.invariant
     (record {
       enabled = tt;
-      allowed = subst (λ i. IsCreateReply w.frame.limits.rows w.rows w.next_inc c.args.parent c.args.coll c.args.name c.args.gives (reply.Created i)) (sym inc) creates;
+      allowed = subst (λ i. IsCreateReply w.frame.limits.rows w.rows w.next_inc c.args.parent c.args.child.coll c.args.child.name c.args.child.gives (reply.Created i)) (sym inc) creates;
     })
-    (ap (λ i. with_row w (created_row i c.args.parent c.args.coll c.args.name c.args.url c.args.gives)) inc)
+    (ap (λ i. with_row w (created_row i c.args.parent c.args.child.coll c.args.child.name c.args.child.url c.args.child.gives)) inc)
     (tasked_added w.rows w.acts row refl c.self.invariant.tasks)
     (record {
       frame = refl;

@@ -12,6 +12,6 @@ create_answer-requires c = sound_in c.trees_stay_sound.ensures.sound c.self.insi
 pub create_by-requires : goal.create_by-requires
 create_by-requires c =
     let w : World = world_in c.self.inside in
-    subst (λ (v : World). CreatesBy v.frame.limits.rows v.rows v.next_inc c.args.parent c.args.coll c.args.name c.args.gives c.in_ok-answer.answer) (sym (ap world_of (sym c.self.view_is) ∙ c.self.invariant.stands.world))
-    (subst (λ n. CreatesBy n w.rows w.next_inc c.args.parent c.args.coll c.args.name c.args.gives c.in_ok-answer.answer) c.self.invariant.rows
-    (subst (λ xs. CreatesBy c.self.inside.table.limit w.rows w.next_inc c.args.parent c.args.coll c.args.name xs c.in_ok-answer.answer) c.as_slice-offered.ensures c.in_ok-answer.ensures))
+    subst (λ (v : World). CreatesBy v.frame.limits.rows v.rows v.next_inc c.args.parent c.args.child.coll c.args.child.name c.args.child.gives c.in_ok-answer.answer) (sym (ap world_of (sym c.self.view_is) ∙ c.self.invariant.stands.world))
+    (subst (λ n. CreatesBy n w.rows w.next_inc c.args.parent c.args.child.coll c.args.child.name c.args.child.gives c.in_ok-answer.answer) c.self.invariant.rows
+    (subst (λ xs. CreatesBy c.self.inside.table.limit w.rows w.next_inc c.args.parent c.args.child.coll c.args.child.name xs c.in_ok-answer.answer) c.as_slice-offered.ensures c.in_ok-answer.ensures))
