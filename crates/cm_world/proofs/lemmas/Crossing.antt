@@ -6,9 +6,7 @@ use denote.Struct.Declared as struct
 use Rattle.cm_names.proofs.lemmas.Crossing.{moniker_field_send, moniker_field_sync}
 use Rattle.cm_decl.proofs.kind.Kind.TheSendSync as kind
 use Rattle.cm_decl.proofs.node.Node.TheSendSync as node
-use Rattle.cm_decl.proofs.rows.Give.TheSendSync as give
 use Rattle.cm_decl.specs.contracts.node.Node
-use Rattle.cm_decl.specs.contracts.rows.Give
 use Rattle.cm_names.proofs.availability.Availability.TheSendSync as availability
 use Rattle.cm_names.proofs.boxed.Boxed.TheSendSync as boxed
 use Rattle.cm_names.proofs.list.List.TheSendSync as list
@@ -26,6 +24,7 @@ use Rattle.cm_names.specs.contracts.shared.Shared
 use Rattle.cm_world.proofs.action.ActKind.TheSendSync as act_kind
 use Rattle.cm_world.proofs.action.Finish.TheSendSync as finish
 use Rattle.cm_world.proofs.action.Outcome.TheSendSync as outcome
+use Rattle.cm_world.proofs.event.NewChild.TheSendSync as new_child
 use Rattle.cm_world.proofs.happening.HappenKind.TheSendSync as happen_kind
 use Rattle.cm_world.proofs.report.Kid.TheSendSync as kid
 use Rattle.cm_world.proofs.report.Look.TheSendSync as look
@@ -36,6 +35,7 @@ use Rattle.cm_world.specs.contracts.answer.Answer
 use Rattle.cm_world.specs.contracts.answer.Checked
 use Rattle.cm_world.specs.contracts.answer.Refusal
 use Rattle.cm_world.specs.contracts.event.Event
+use Rattle.cm_world.specs.contracts.event.NewChild
 use Rattle.cm_world.specs.contracts.event.Target
 use Rattle.cm_world.specs.contracts.happening.Happening
 use Rattle.cm_world.specs.contracts.reply.Entry
@@ -406,7 +406,7 @@ event_field_send = send.enum_send (enum.shape Event.the_type) (
         (
           (
             send.plain_send _ _ _ _ _,
-            (name.the_send, (name.the_send, (text.the_send, (list.the_send Give.the_row give.the_send, tt)))),
+            (boxed.the_send NewChild.the_row new_child.the_send, tt),
           ),
           (
             (send.plain_send _ _ _ _ _, (send.plain_send _ _ _ _ _, tt)),
