@@ -1,3 +1,4 @@
+pub mod Alike
 pub mod Block
 pub mod Examples
 pub mod Url

@@ -8,6 +8,7 @@
 //! of their URLs.
 #![tactic(auto)]
 
+mod alike;
 mod fault;
 mod repository;
 mod urls;

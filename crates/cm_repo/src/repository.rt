@@ -2,14 +2,16 @@
 
 ghost use Rattle.std.specs.Prelude.{◌≡◌, [], Ok, OnOk, OnErr, IfOk, IfErr, IsTrue, string_bytes};
 ghost use Rattle.std.specs.Option.{option_copied};
-ghost use Rattle.cm_repo.specs.Answers.{IsRepoRefusal};
+ghost use Rattle.cm_repo.specs.Answers.{IsRepoRefusal, GivesUnless};
 ghost use Rattle.cm_repo.specs.Blocks.{added, block_at};
 ghost use Rattle.cm_repo.specs.BlocksInside.{FindsAlso};
 ghost use Rattle.cm_repo.specs.Urls.{key_of};
 ghost use Rattle.cm_repo.specs.declared.fault.RepoFault.TheVariants.{Memory};
+ghost use Rattle.cm_repo.specs.declared.fault.UrlFault.TheVariants as url_fault;
 
-use crate::RepoFault;
+use crate::alike::is_alike;
 use crate::urls::key;
+use crate::{RepoFault, UrlFault};
 use cm_names::{Bytes, Text};
 use indexmap::IndexMap;
 use std::alloc::Global;
@@ -76,6 +78,26 @@ impl Repository {
         }
     }
 
+    /// Whether the last block tells that the text of this URL is this very one.
+    fn tells(&self, url: &str) -> bool
+        ensures { IsTrue result → key_of url.now ≡ Ok url.now }
+    {
+        match self.blocks.last() {
+            Some((known, block)) => block.verbatim && is_alike(known.as_str(), url),
+            None => false,
+        }
+    }
+
+    /// The text of the URL of a block, which mostly is told by the block before.
+    fn key_of_block(&self, url: &str) -> Result<Text, UrlFault>
+        ensures { GivesUnless url_fault.Memory result (key_of url.now) }
+    {
+        if self.tells(url) {
+            return Ok(Text::from_str(self.alloc, url)?);
+        }
+        key(self.alloc, url)
+    }
+
     /// Puts a block last, under the text of its URL as the URL Standard writes it.
     ///
     /// A block that is refused is dropped, and the repository is as before. The faults are tried
@@ -94,7 +116,7 @@ impl Repository {
             IsRepoRefusal Memory fault (added self.old url.now bytes)) }
         ensures unchanged { OnErr result (self.new ≡ self.old) }
     {
-        let key = key(self.alloc, url)?;
+        let key = self.key_of_block(url)?;
         if self.blocks.contains_key(key.as_str()) {
             return Err(RepoFault::Repeated);
         }

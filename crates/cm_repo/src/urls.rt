@@ -93,7 +93,7 @@ fn prefix_of(text: &str) -> Option<&str>
 /// What stands before the fragment of a base, where a fragment is joined to that base by putting it in the
 /// place of the base's own.
 #[tactic(auto, using(crate::proofs::lemmas::Url::plain))]
-fn plain_prefix<'a>(base: &'a str, url: &str) -> Option<&'a str>
+pub(crate) fn plain_prefix<'a>(base: &'a str, url: &str) -> Option<&'a str>
     ensures { IfSome result (λ prefix. inside.IsPlainPrefix prefix.now base.now url.now) }
 {
     if !is_url_text(base) {

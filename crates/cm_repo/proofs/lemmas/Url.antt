@@ -137,7 +137,7 @@ no_question (x ∷ xs) h =
     rw tests.1 (ap (λ r. (x ∷ r.0, r.1)) (no_question xs both.1))
 
 -- a whole text is parsed by its prefix
-parsed_by_prefix : (base : Option Parts) (prefix ys : List ℕ) → list_all is_url_byte (prefix ++ 35 ∷ ys) ≡ true
+pub parsed_by_prefix : (base : Option Parts) (prefix ys : List ℕ) → list_all is_url_byte (prefix ++ 35 ∷ ys) ≡ true
     → list_all in_prefix prefix ≡ true
     → parse_url base (prefix ++ 35 ∷ ys) ≡ parse_by_scheme (split_scheme prefix) base prefix None (Some ys)
 unfolding parse_url
@@ -167,7 +167,7 @@ joined_fragment whole ys h =
 -- ---- both ways
 
 -- The parts that were read, with their fragment.
-abbrev whole_of : Parsed Parts → List ℕ → Parsed Parts
+abbrev pub whole_of : Parsed Parts → List ℕ → Parsed Parts
 whole_of r ys = and_then r (λ u. Ok (with_tail (before_tail u None (Some ys)) None (Some ys)))
 
 -- A fragment joined to a URL read with another one gives the text of that URL read with it.
@@ -188,7 +188,7 @@ by_scheme None prefix old ys h = refl
 by_scheme (Some split) prefix old ys h = by_body (parse_body _ None split.1) old ys h
 
 -- The bytes of a URL's text are all a URL's.
-bytes_of : (t : List ℕ) → is_url_text t ≡ true → list_all is_url_byte t ≡ true
+pub bytes_of : (t : List ℕ) → is_url_text t ≡ true → list_all is_url_byte t ≡ true
 bytes_of t h = (and_parts (not (length t == 0) && nat_le (length t) 4096) (list_all is_url_byte t) h).1
 
 -- Where bytes and more are all a URL's, the first ones are.
@@ -197,6 +197,11 @@ all_append [] ys h = refl
 all_append (x ∷ xs) ys h =
     let both = and_parts (is_url_byte x) (list_all is_url_byte (xs ++ ys)) h in
     rw both.0 (all_append xs ys both.1)
+
+-- Where a prefix, a hash and more are all a URL's bytes, what is behind the hash is.
+pub all_rest : (xs ys : List ℕ) → list_all is_url_byte (xs ++ 35 ∷ ys) ≡ true → list_all is_url_byte ys ≡ true
+all_rest [] ys h = (and_parts (is_url_byte 35) (list_all is_url_byte ys) h).1
+all_rest (x ∷ xs) ys h = all_rest xs ys (and_parts (is_url_byte x) (list_all is_url_byte (xs ++ 35 ∷ ys)) h).1
 
 -- Bytes of a URL and further ones are all a URL's.
 appended : (xs ys : List ℕ) → list_all is_url_byte xs ≡ true → list_all is_url_byte ys ≡ true
