@@ -46,7 +46,8 @@ IsLegible (event.Begin kind i) = i < 2 ^ 64
 IsLegible (event.End a f) = (a < 2 ^ 64) × IsLegibleFinish f
 IsLegible (event.Await a) = a < 2 ^ 64
 IsLegible (event.Create i child) =
-    (i < 2 ^ 64) × IsName child.coll × IsName child.name × IsUrlText child.url × All IsWritableGive child.gives
+    (i < 2 ^ 64) × IsName child.coll × IsName child.name × IsUrlText child.url
+    × All IsWritableGive child.gives
 IsLegible (event.Mark doomed i) = i < 2 ^ 64
 IsLegible (event.Pick i) = i < 2 ^ 64
 IsLegible (event.Purge i) = i < 2 ^ 64

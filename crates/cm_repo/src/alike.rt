@@ -1,4 +1,4 @@
-//! The text of a URL that is told by another one: both are a prefix and a fragment of which nothing is escaped.
+//! The text of a URL that is told by another one: both are a prefix and a fragment with nothing to escape.
 
 ghost use Rattle.std.specs.Prelude.{◌≡◌, ◌++◌, ◌∷◌, Ok, IfSome, IsTrue};
 ghost use Rattle.std.specs.List.{list_all};

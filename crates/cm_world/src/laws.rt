@@ -170,7 +170,8 @@ pub fn answers_resolved()
 /// Replies in a realm with a child in a collection: before it is created, while it lives, once
 /// it is doomed, and where its parent is closing.
 pub fn answers_created()
-    ensures offers { Allowed worlds.collecting 0 (event.Create 0 (child_with k x x given)) reply.OffersRefused }
+    ensures offers { Allowed worlds.collecting 0 (event.Create 0 (child_with k x x given))
+        reply.OffersRefused }
     ensures exists { Allowed worlds.created 0 (event.Create 0 (child_with k x x [])) (reply.Exists 1) }
     ensures listed { Allowed worlds.created 0 (event.Listing 0 k) (reply.Listed (x_kid ∷ [])) }
     ensures unlisted { Allowed worlds.doomed 0 (event.Listing 0 k) (reply.Listed []) }

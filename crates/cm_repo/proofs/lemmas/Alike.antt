@@ -35,10 +35,10 @@ drop_at (x ∷ xs) (suc n) l = drop_at xs n (omega arith)
 pub behind : (bytes t prefix : List ℕ) → bytes ≡ t → length prefix < length bytes → get_or bytes (length prefix) 0 ≡ 35
     → take (length prefix) bytes ≡ prefix
     → t ≡ prefix ++ 35 ∷ take (length bytes - (length prefix + 1)) (drop (length prefix + 1) bytes)
-behind bytes t prefix same l hash front =
+behind bytes t prefix same l hash lead =
     let next : suc (length prefix) ≡ length prefix + 1 = omega arith in
     sym same ∙ sym (take-append-drop (length prefix) bytes)
-    ∙ ap₂ (λ a b. a ++ b) front
+    ∙ ap₂ (λ a b. a ++ b) lead
     (drop_at bytes (length prefix) l ∙ ap₂ (λ x xs. x ∷ xs) hash (ap (λ k. drop k bytes) next ∙ sym (take_rest bytes (length prefix + 1))))
 
 -- ---- nothing is escaped
@@ -75,14 +75,14 @@ abbrev with_fragment : Parts → List ℕ → Parts
 with_fragment u ys = with_tail (before_tail u None (Some ys)) None (Some ys)
 
 -- What stands before a fragment doesn't depend on it.
-abbrev front : Parts → List ℕ
-front u = text_before (with_fragment u []) AfterQuery
+abbrev lead : Parts → List ℕ
+lead u = text_before (with_fragment u []) AfterQuery
 
 -- Parts with a fragment of which nothing is escaped are written as what stands before it, a hash, and it.
-written : (u : Parts) (ys : List ℕ) → All (IsKept FRAGMENT) ys → serialize (with_fragment u ys) ≡ front u ++ 35 ∷ ys
+written : (u : Parts) (ys : List ℕ) → All (IsKept FRAGMENT) ys → serialize (with_fragment u ys) ≡ lead u ++ 35 ∷ ys
 written u ys h =
     fragment_text (with_fragment u ys)
-    ∙ ap (λ zs. front u ++ 35 ∷ zs) (append-nil (percent_encode FRAGMENT ys) ∙ percent_encode_unchanged FRAGMENT ys h)
+    ∙ ap (λ zs. lead u ++ 35 ∷ zs) (append-nil (percent_encode FRAGMENT ys) ∙ percent_encode_unchanged FRAGMENT ys h)
 
 -- A text that the parts come to is the one that they are written as.
 text_is : (u : Parts) (t : List ℕ) → text_of u ≡ Ok t → serialize u ≡ t
@@ -104,8 +104,8 @@ by_parts : (u : Parts) (prefix old ys : List ℕ) → All (IsKept FRAGMENT) old 
     → is_url_text (prefix ++ 35 ∷ ys) ≡ true → has_fragment (Some ys) ≡ true
     → text_of (with_fragment u old) ≡ Ok (prefix ++ 35 ∷ old) → text_of (with_fragment u ys) ≡ Ok (prefix ++ 35 ∷ ys)
 by_parts u prefix old ys kept_old kept_new is some h =
-    let same : front u ≡ prefix =
-    append_cancel_right (front u) prefix (35 ∷ old) (sym (written u old kept_old) ∙ text_is (with_fragment u old) _ h) in
+    let same : lead u ≡ prefix =
+    append_cancel_right (lead u) prefix (35 ∷ old) (sym (written u old kept_old) ∙ text_is (with_fragment u old) _ h) in
     text_from (with_fragment u ys) _ (written u ys kept_new ∙ ap (λ p. p ++ 35 ∷ ys) same) is
     (ap (λ f. has_fragment (Some f)) (percent_encode_unchanged FRAGMENT ys kept_new) ∙ some)
 

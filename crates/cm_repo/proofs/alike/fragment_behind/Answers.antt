@@ -11,5 +11,5 @@ returns c =
     let inside : length prefix < length bytes = grind (arith, rules) in
     let hash : get_or bytes (length prefix) 0 ≡ 35 = search rules in
     let same : bytes_eq (take (length prefix) bytes) c.as_bytes.result.now ≡ true = search rules in
-    let front : take (length prefix) bytes ≡ prefix = (bytes_eq-Decides _ _).0 same ∙ c.as_bytes.ensures.value in
-    behind bytes c.args.text.now prefix c.as_bytes-bytes.ensures.value inside hash front
+    let begin : take (length prefix) bytes ≡ prefix = (bytes_eq-Decides _ _).0 same ∙ c.as_bytes.ensures.value in
+    behind bytes c.args.text.now prefix c.as_bytes-bytes.ensures.value inside hash begin
