@@ -11,4 +11,4 @@ mod tree;
 
 pub use plain::read_plain;
 pub use relaxed::read_relaxed;
-pub use tree::{JsonTree, tree_of};
+pub use tree::{JsonTree, same_text, tree_of};

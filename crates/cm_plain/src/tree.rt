@@ -1,6 +1,7 @@
 //! JSON values that borrow their texts.
 
 ghost use Rattle.std.specs.Prelude.{◌≡◌, option_map, IfOk};
+ghost use Rattle.std.specs.Str.{bytes_eq};
 ghost use Rattle.serde_json.specs.Find.{get as member_of, get_member, as_str, as_array, as_object};
 ghost use Rattle.serde_json.specs.View as json;
 ghost use Rattle.cm_plain.specs.JsonTree.{view, items_view, members_view, member_or};
@@ -25,6 +26,15 @@ pub enum JsonTree<'a> {
     Object(Vec<(&'a str, JsonTree<'a>)>),
 }
 
+/// Whether two texts are the same. Keys that are compared mostly differ in length, which is seen here, where the
+/// function is called: `==` alone is a call for each pair.
+#[inline(always)]
+pub fn same_text(text: &str, other: &str) -> bool
+    ensures { result ≡ bytes_eq text.now other.now }
+{
+    text.len() == other.len() && text == other
+}
+
 /// The value of the member, if it has this key, and else what was found before it.
 fn later<'t, 'a>(
     found: Option<&'t JsonTree<'a>>,
@@ -34,7 +44,7 @@ fn later<'t, 'a>(
     ensures { option_map (λ v. view v.now) result
         ≡ member_or (option_map (λ v. view v.now) found.entry) (member.now.0, view member.now.1) key.now }
 {
-    if member.0 == key {
+    if same_text(member.0, key) {
         Some(&member.1)
     } else {
         found
