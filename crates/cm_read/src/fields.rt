@@ -16,7 +16,7 @@ use crate::number::{
 use crate::rows::one_row;
 use cm_names::url::is_url_text;
 use cm_names::{CapPath, List, Name, NameFault, PathFault, Rights, SubDir, Text};
-use cm_plain::JsonTree;
+use cm_plain::{JsonTree, same_text};
 use std::alloc::Global;
 use std::cmp::Ordering;
 
@@ -393,7 +393,7 @@ pub fn rights_of(
 fn is_known(known: &[&str], key: &str) -> bool
     ensures { result ≡ list_any (λ w. bytes_eq w.now key.now) known.now }
 {
-    known.iter().any(|word| *word == key)
+    known.iter().any(|word| same_text(word, key))
 }
 
 /// The lesser one of two keys, in byte order.

@@ -15,16 +15,16 @@ use crate::number::{BAD_NAME, UNKNOWN_WORD};
 use crate::rows::UseSource;
 use cm_decl::{Child, Durability, Origin};
 use cm_names::{Availability, ChildName, Dependency, Name};
-use cm_plain::JsonTree;
+use cm_plain::{JsonTree, same_text};
 use std::alloc::Global;
 
 /// Which of two words the text is: `false` for `off`, `true` for `on`, and `None` for any other.
 fn flag_named(off: &str, on: &str, text: &str) -> Option<bool>
     ensures { result ≡ spec_inside.flag_named off.now on.now text.now }
 {
-    if text == off {
+    if same_text(text, off) {
         Some(false)
-    } else if text == on {
+    } else if same_text(text, on) {
         Some(true)
     } else {
         None
