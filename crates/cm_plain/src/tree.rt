@@ -26,8 +26,8 @@ pub enum JsonTree<'a> {
     Object(Vec<(&'a str, JsonTree<'a>)>),
 }
 
-/// Whether two texts are the same. Keys that are compared mostly differ in length, which is seen here, where the
-/// function is called: `==` alone is a call for each pair.
+/// Whether two texts are the same. Keys that are compared mostly differ in length, which is seen here, where
+/// the function is called: `==` alone is a call for each pair.
 #[inline(always)]
 pub fn same_text(text: &str, other: &str) -> bool
     ensures { result ≡ bytes_eq text.now other.now }
