@@ -247,14 +247,27 @@ fn release(alloc: Global, known: &mut Dependents, child: u64) -> Result<(), Memo
         KnowsDependents rows p known.new) }
     ensures cleared { OnOk result (known.new.cleared ≡ known.old.cleared) }
 {
-    if known.is_free(child) {
-        return Ok(());
+    if loses_last(alloc, known, child)? {
+        known.open.push_back(child)?;
     }
-    if next_client(alloc, known, child)?.is_some() {
-        return Ok(());
-    }
-    known.open.push_back(child)?;
     Ok(())
+}
+
+/// Leaves what is cleared at the end of a child's list out of it. Tells whether that had a node, and has none
+/// now; no clause says so.
+fn loses_last(alloc: Global, known: &mut Dependents, child: u64) -> Result<bool, Memory>
+    ensures known { OnOk result ((rows : Seq Row) (p : ℕ) → KnowsDependents rows p known.old →
+        KnowsDependents rows p known.new) }
+    ensures cleared { OnOk result (known.new.cleared ≡ known.old.cleared) }
+{
+    match known.edges.clients.get_mut(&child) {
+        None => Ok(false),
+        Some(clients) => {
+            let had_one = !clients.is_empty();
+            let last = trim(alloc, &known.cleared, clients)?;
+            Ok(had_one && last.is_none())
+        }
+    }
 }
 
 /// The last node in a child's list that isn't known to be cleared. What is cleared behind it is left out.
