@@ -21,6 +21,11 @@ pub record IsFreeOnTheWay (rows : List Row) (top i : ℕ) : Type 0 where
   pub free : (p c : ℕ) → IsKid rows p c → IsTrue (is_below rows top p) → IsTrue (is_below rows c i)
       → IsFree rows p c
 
+-- row i is reached from the top by free rows, and all below it is shut
+pub record IsLowest (rows : List Row) (top i : ℕ) : Type 0 where
+  pub reached : IsFreeOnTheWay rows top i
+  pub below : AreKidsShut rows i
+
 -- each child row of p up to the given one is shut with all below it, or nothing is said
 abbrev pub AreShutSoFar : List Row → ℕ → Option ℕ → Type 0
 AreShutSoFar rows p last =

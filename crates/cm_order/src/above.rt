@@ -1,12 +1,14 @@
 //! What the facts of an instance say, and of those above it.
 
-ghost use Rattle.std.specs.Prelude.{◌≡◌, not, false, Some, IsTrue, if◌then◌else◌, option_and_then};
+ghost use Rattle.std.specs.Prelude.{◌≡◌, not, false, Some, IsTrue, if◌then◌else◌};
+ghost use Rattle.std.specs.Prelude.{option_and_then, option_map};
 ghost use Rattle.std.specs.Option.{option_map_or};
 ghost use Rattle.cm_world.specs.Rows.{row_of, has_closing, is_closing as closes_at};
+ghost use Rattle.cm_world.specs.RowsInside.{facts_of};
 ghost use Rattle.cm_world.specs.Sound.{IsOrderly};
 ghost use Rattle.cm_world.specs.Stopping as spec;
 
-use cm_world::View;
+use cm_world::{Facts, View};
 
 /// A place on a way up.
 #[derive(Debug, Clone, Copy)]
@@ -15,8 +17,6 @@ struct Upward {
     at: Option<u64>,
     /// The last one so far that is being shut down itself.
     found: Option<u64>,
-    /// Whether the instance below this place is being shut down itself.
-    closes: bool,
 }
 
 /// One further up from the instance: to its parent, if it has one. The instance is found, if it itself
@@ -27,16 +27,19 @@ fn climb<V: View>(view: &V, inc: u64, found: Option<u64>) -> Upward
     ensures orderly { IsOrderly (V.rows view.now) (V.next_inc view.now) }
 {
     match view.facts(inc) {
-        None => Upward {
-            at: None,
-            found,
-            closes: false,
-        },
-        Some(facts) => Upward {
-            at: facts.parent,
-            found: if facts.closing { Some(inc) } else { found },
-            closes: facts.closing,
-        },
+        None => Upward { at: None, found },
+        Some(facts) => climb_by(inc, facts, found),
+    }
+}
+
+/// The same of an instance that has these facts.
+fn climb_by(inc: u64, facts: Facts, found: Option<u64>) -> Upward
+    ensures parent { result.at ≡ facts.parent }
+    ensures closing { result.found ≡ (if facts.closing then Some inc else found) }
+{
+    Upward {
+        at: facts.parent,
+        found: if facts.closing { Some(inc) } else { found },
     }
 }
 
@@ -56,14 +59,27 @@ fn stays_open<V: View>(view: &V, inc: u64, closes: bool) -> bool
 pub(crate) fn outermost<V: View>(view: &V, inc: u64) -> Option<u64>
     ensures { result ≡ spec.outermost (V.rows view.now) inc }
 {
-    let mut found = None;
-    let mut at = Some(inc);
+    let facts = view.facts(inc)?;
+    outermost_by(view, inc, facts)
+}
+
+/// The same of an instance that has these facts.
+pub(crate) fn outermost_by<V: View>(view: &V, inc: u64, facts: Facts) -> Option<u64>
+    requires orderly { IsOrderly (V.rows view.now) (V.next_inc view.now) }
+    requires facts { Some facts ≡ option_map facts_of (row_of (V.rows view.now) inc) }
+    ensures { result ≡ spec.outermost (V.rows view.now) inc }
+{
+    if stays_open(view, inc, facts.closing) {
+        return None;
+    }
+    let first = climb_by(inc, facts, None);
+    let mut found = first.found;
+    let mut at = first.at;
     'up: while let Some(here) = at {
-        let further = climb(view, here, found);
-        let none_closes = stays_open(view, here, further.closes);
-        if none_closes {
+        if !view.closing_above(here) {
             return found;
         }
+        let further = climb(view, here, found);
         found = further.found;
         at = further.at;
     }

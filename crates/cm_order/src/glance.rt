@@ -21,7 +21,7 @@ use crate::dependents::Dependents;
 use crate::search::VisitResult;
 use crate::stand::Stand;
 use cm_names::Memory;
-use cm_world::View;
+use cm_world::{Facts, View};
 use std::alloc::Global;
 use std::collections::BTreeMap;
 
@@ -258,8 +258,15 @@ pub(crate) fn is_idle<V: View>(view: &V, inc: u64) -> bool
 {
     match view.facts(inc) {
         None => false,
-        Some(facts) => !facts.shut && facts.pending.is_none(),
+        Some(facts) => idle_by(facts),
     }
+}
+
+/// Whether an instance that has these facts isn't shut and has no pending action.
+pub(crate) fn idle_by(facts: Facts) -> bool
+    ensures { result ≡ (not facts.shut && is_none facts.pending) }
+{
+    !facts.shut && facts.pending.is_none()
 }
 
 /// Which children of an instance are shut, with all below them.

@@ -1,8 +1,9 @@
 //! What a pick comes to.
 
-ghost use Rattle.std.specs.Prelude.{◌≡◌, false, Some, IsTrue, IfOk, if◌then◌else◌, option_map};
-ghost use Rattle.std.specs.Prelude.{option_and_then};
+ghost use Rattle.std.specs.Prelude.{◌≡◌, false, Some, IsTrue, IfOk, IfSome, if◌then◌else◌};
+ghost use Rattle.std.specs.Prelude.{option_map, option_and_then};
 ghost use Rattle.cm_world.specs.Rows.{row_of, is_subtree_shut, is_on};
+ghost use Rattle.cm_world.specs.RowsInside.{facts_of};
 ghost use Rattle.cm_world.specs.Sound.{IsSound};
 ghost use Rattle.cm_world.specs.Stopping as spec;
 ghost use Rattle.cm_world.specs.Step.{may_close};
@@ -11,15 +12,16 @@ ghost use Rattle.cm_order.specs.Search.{NoneIs};
 ghost use Rattle.cm_order.specs.Picking.{IsPicked, PickWaitsFor};
 ghost use Rattle.cm_order.specs.Plans.{IsPlan, AreKnown};
 
-use crate::above::{is_unshut, outermost};
+use crate::above::outermost_by;
 use crate::below::all_shut;
 use crate::dependents::Dependents;
+use crate::glance::idle_by;
 use crate::plan::DescentPlan;
 use crate::quick::quick;
 use crate::search::{SearchGoal, search};
 use cm_names::Memory;
 use cm_walk::above::is_on;
-use cm_world::View;
+use cm_world::{Facts, View};
 use std::alloc::Global;
 use std::collections::BTreeMap;
 
@@ -92,10 +94,18 @@ pub fn pick_with<V: View>(
     ensures picked { IfOk result (IsPicked (V.rows view.now) target) }
     ensures plan { IsPlan (V.rows view.now) plan.new }
 {
-    let Some(top) = outermost(view, target) else {
+    let Some(facts) = view.facts(target) else {
         return Ok(Picked::Done);
     };
-    if is_done(alloc, view, plan, target)? {
+    let Some(top) = outermost_by(view, target, facts) else {
+        return Ok(Picked::Done);
+    };
+    if top == target {
+        if let Some(picked) = pick_on(view, plan, top) {
+            return Ok(picked);
+        }
+    }
+    if is_done(alloc, view, plan, target, facts)? {
         plan.finish(target);
         return Ok(Picked::Done);
     }
@@ -111,21 +121,41 @@ pub fn pick_with<V: View>(
     }
 }
 
-/// Whether all instances at and below the target are shut. What is below it isn't looked at where the
-/// way of the last pick tells that.
+/// What a pick comes to where the way of the last one ends at an instance that may still be picked, and
+/// began at this outermost one. `None` says nothing.
+fn pick_on<V: View>(view: &V, plan: &DescentPlan, top: u64) -> Option<Picked>
+    requires sound { IsSound (V.rows view.now) (V.next_inc view.now) }
+    requires top { spec.outermost (V.rows view.now) top ≡ Some top }
+    requires plan { IsPlan (V.rows view.now) plan.now }
+    ensures { IfSome result (IsPicked (V.rows view.now) top) }
+{
+    let inc = plan.lowest(top)?;
+    let facts = view.facts(inc)?;
+    if !idle_by(facts) {
+        return None;
+    }
+    Some(picked_by(inc, facts.on))
+}
+
+/// Whether all instances at and below the target, which has these facts, are shut. What is below it isn't
+/// looked at where it isn't shut itself, or the way of the last pick tells that.
 fn is_done<V: View>(
     alloc: Global,
     view: &V,
     plan: &DescentPlan,
     target: u64,
+    facts: Facts,
 ) -> Result<bool, Memory>
-    requires { IsPlan (V.rows view.now) plan.now }
+    requires sound { IsSound (V.rows view.now) (V.next_inc view.now) }
+    requires plan { IsPlan (V.rows view.now) plan.now }
+    requires facts { Some facts ≡ option_map facts_of (row_of (V.rows view.now) target) }
     ensures { IfOk result (λ done. done ≡ is_subtree_shut (V.rows view.now) target) }
 {
+    if !facts.shut {
+        return Ok(false);
+    }
     if plan.knows_below(target) {
-        if !is_unshut(view, target) {
-            return Ok(true);
-        }
+        return Ok(true);
     }
     all_shut(alloc, view, target)
 }
@@ -135,7 +165,14 @@ fn stop_or_shut<V: View>(view: &V, inc: u64) -> Picked
     ensures { result ≡ (if is_on (V.rows view.now) inc then Picked.StopNow inc
         else Picked.ShutNow inc) }
 {
-    if is_on(view, inc) {
+    picked_by(inc, is_on(view, inc))
+}
+
+/// How an instance that may be picked is told, by whether its program runs.
+fn picked_by(inc: u64, on: bool) -> Picked
+    ensures { result ≡ (if on then Picked.StopNow inc else Picked.ShutNow inc) }
+{
+    if on {
         Picked::StopNow(inc)
     } else {
         Picked::ShutNow(inc)

@@ -1,10 +1,10 @@
 //! What is known of ways down, between one pick and the next.
 
-ghost use Rattle.std.specs.Prelude.{◌≡◌, List as Seq, OnOk, IsTrue};
+ghost use Rattle.std.specs.Prelude.{◌≡◌, List as Seq, OnOk, IfSome, IsTrue};
 ghost use Rattle.cm_world.specs.declared.row.Row.{Row};
 ghost use Rattle.cm_world.specs.Rows.{is_closing};
 ghost use Rattle.cm_order.specs.Glances.{AreKidsShut};
-ghost use Rattle.cm_order.specs.Plans.{IsPlan, KnowsNone};
+ghost use Rattle.cm_order.specs.Plans.{IsPlan, IsLowest, KnowsNone};
 
 use crate::above::is_closing;
 use crate::dependents::Dependents;
@@ -86,6 +86,25 @@ impl DescentPlan {
             return stand.below_shut;
         }
         false
+    }
+
+    /// The instance at which the way of the last pick ends, if it began at this top and all below the
+    /// instance is known to be shut. `None` says nothing.
+    pub(crate) fn lowest(&self, top: u64) -> Option<u64>
+        ensures { (rows : Seq Row) → IsPlan rows self.now → IfSome result (IsLowest rows top) }
+    {
+        if self.top != top {
+            return None;
+        }
+        let count = self.way.len();
+        if count == 0 {
+            return None;
+        }
+        let stand = &self.way[count - 1];
+        if stand.below_shut {
+            return Some(stand.inc);
+        }
+        None
     }
 
     /// Takes up the way from this top, or an empty one, and keeps the one that it had. `Err` where

@@ -5,3 +5,4 @@ pub mod Turns
 pub mod Weights
 pub mod Going
 pub mod Reaching
+pub mod Upward

@@ -1,20 +1,29 @@
 -- What a pick answers.
-use Rattle.std.proofs.Common.{◌≡◌, ℕ, List, false, not, Option, Some, None, IsTrue, is_none, is_some, option_map, option_and_then, refl, sym, ◌∙◌, ap, subst, inl, inr}
+use Rattle.std.proofs.Common.{◌≡◌, ℕ, List, Bool, true, false, cond, not, ◌&&◌, Option, Some, None, IsTrue, is_none, is_some, option_map, option_and_then, refl, sym, ◌∙◌, ap, subst, inl, inr}
+use Rattle.std.specs.Option.{option_map_or}
 use Rattle.std.proofs.lemmas.Bool.{not-true, or_cases}
+use Rattle.cm_decl.proofs.lemmas.Sameness.{never}
 use Rattle.cm_facts.proofs.Booleans.{true_and_false}
 use Rattle.cm_world.specs.declared.row.Row.{Row}
 use Rattle.cm_world.specs.declared.action.ActKind.{ActKind}
+use Rattle.cm_world.specs.declared.view.Facts.{Facts}
 use Rattle.cm_world.specs.Rows.{row_of, is_live, is_below, is_closing, is_subtree_shut}
+use Rattle.cm_world.specs.RowsInside.{facts_of}
 use Rattle.cm_world.specs.Sound.{IsSound}
 use Rattle.cm_world.specs.Stopping.{outermost, CanPick}
 use Rattle.cm_world.specs.Step.{may_close}
 use Rattle.cm_world.proofs.lemmas.trees.Finding.{none_some, some_same}
 use Rattle.cm_order.specs.declared.search.SearchGoal.TheVariants.{Idle, Pending}
 use Rattle.cm_order.specs.Search.{IsFound, NoneIs}
-use Rattle.cm_order.specs.Picking.{PickWaitsFor}
-use Rattle.cm_trees.proofs.trees.Trees.{climb, below_lives, below_cases, below_trans, shut_each, shut_all}
+use Rattle.cm_order.specs.Picking.{PicksNow, PickWaitsFor, IsPicked}
+use Rattle.cm_order.specs.Plans.{IsLowest}
+use Rattle.cm_order.specs.declared.picking.Picked.TheVariants.{StopNow, ShutNow}
+use Rattle.cm_trees.proofs.trees.Trees.{climb, below_lives, below_cases, below_trans, shut_each, shut_all, not_true}
 use Rattle.cm_trees.proofs.trees.Tops.{IsTop, top_of, top_below, top_lives, no_top}
 use Rattle.cm_trees.proofs.trees.Ending.{CanUnder, shut_or_can}
+use Rattle.cm_order.proofs.lemmas.levels.Glancing.{here_last}
+use Rattle.cm_order.proofs.lemmas.searches.Going.{at_found}
+use Rattle.cm_order.proofs.lemmas.searches.Reaching.{at_reached}
 
 module _ (rows : List Row) (next : ℕ) (sound : IsSound rows next) where
   -- ---- nothing to be done
@@ -35,6 +44,15 @@ module _ (rows : List Row) (next : ℕ) (sound : IsSound rows next) where
   gone_shut : (t : ℕ) → is_live rows t ≡ false → IsTrue (is_subtree_shut rows t)
   gone_shut t gone = shut_all rows next sound.orderly t (λ i r lives below. true_and_false (is_live rows t) (top_there t i below) gone)
 
+  -- Where no facts are told there is no row.
+  none_told : (o : Option Row) → None ≡ option_map facts_of o → is_some o ≡ false
+  none_told None told = refl
+  none_told (Some r) told = absurd (none_some (facts_of r) told)
+
+  -- a target of which no facts are told is all shut
+  pub untold_shut : (t : ℕ) → None ≡ option_map facts_of (row_of rows t) → IsTrue (is_subtree_shut rows t)
+  untold_shut t told = gone_shut t (none_told (row_of rows t) told)
+
   -- a target that lives and has no closing row above it is none
   pub none_left : (t : ℕ) → IsTrue (may_close rows t) → outermost rows t ≡ None → IsTrue (is_subtree_shut rows t)
   none_left t may none = elim (or_cases (not (is_live rows t)) (is_closing rows t) may) [
@@ -45,6 +63,52 @@ module _ (rows : List Row) (next : ℕ) (sound : IsSound rows next) where
   -- the outermost closing row is its own
   pub own_top : (t top : ℕ) → outermost rows t ≡ Some top → outermost rows top ≡ Some top
   own_top t top all = let is : IsTop rows top t = top_of rows next sound.orderly t top all in is.own
+
+  -- ---- the end of a way
+
+  -- Where the test that there is none holds, there is none.
+  none_there : {A : Type 0} (o : Option A) → IsTrue (is_none o) → o ≡ None
+  none_there None none = refl
+  none_there (Some x) none = never none
+
+  -- A row whose facts are told has these.
+  told_row : (y : ℕ) (f : Facts) (o : Option Row) → row_of rows y ≡ o → Some f ≡ option_map facts_of o → (r : Row) × (row_of rows y ≡ Some r) × (facts_of r ≡ f)
+  told_row y f None e told = absurd (none_some f (sym told))
+  told_row y f (Some r) e told = (r, e, sym (some_same f (facts_of r) told))
+
+  -- A row that is picked is told by whether it is on.
+  picked_as : (t y : ℕ) (b : Bool) → PicksNow rows t y b → IsPicked rows t (cond b (StopNow y) (ShutNow y))
+  picked_as t y true picks = picks
+  picked_as t y false picks = picks
+
+  -- Below an outermost top an idle row that may stop is one that a pick may choose.
+  picks_found : (top y : ℕ) (r : Row) (b : Bool) → outermost rows top ≡ Some top → row_of rows y ≡ Some r → r.on ≡ b → IsFound rows top Idle y → PicksNow rows top y b
+  picks_found top y r b own lives on found =
+      let same : found.row ≡ r = some_same found.row r (sym found.may.lives ∙ lives) in
+      record {
+        undone = not_true (is_subtree_shut rows top) (λ all. true_and_false found.row.shut (shut_each rows next sound.orderly top y found.row all found.may.lives found.may.below) found.may.unshut);
+        row = found.row;
+        may = record {
+          row = found.may.lives;
+          top = top;
+          outermost = own;
+          below = found.may.below;
+          unshut = found.may.unshut;
+          idle = none_there found.row.pending found.may.fits;
+          may_stop = found.may.may_stop;
+        };
+        state = ap (λ q. q.on) same ∙ on;
+      }
+
+  -- a pick that goes on at the end of a way, below which all is shut, and which is idle
+  pub picked_lowest : (top y : ℕ) (f : Facts) → outermost rows top ≡ Some top → IsLowest rows top y → Some f ≡ option_map facts_of (row_of rows y) → IsTrue (not f.shut && is_none f.pending) → IsPicked rows top (cond f.on (StopNow y) (ShutNow y))
+  picked_lowest top y f own is told idle =
+      let row : (r : Row) × (row_of rows y ≡ Some r) × (facts_of r ≡ f) = told_row y f (row_of rows y) refl told in
+      let fits : IsTrue (option_map_or (λ r. not r.shut && is_none r.pending) (row_of rows y) false) =
+      ap (λ o. option_map_or (λ r. not r.shut && is_none r.pending) o false) row.1 ∙ ap (λ g. not g.shut && is_none g.pending) row.2 ∙ idle in
+      let found : IsFound rows top Idle y =
+      at_found rows next sound.orderly top y (Some y) own refl (at_reached rows next sound.orderly top own y is.reached) (here_last rows next sound y fits is.below) in
+      picked_as top y f.on (picks_found top y row.0 f.on own row.1 (ap (λ g. g.on) row.2) found)
 
   -- ---- what is waited for
 

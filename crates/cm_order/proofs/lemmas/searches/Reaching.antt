@@ -17,7 +17,7 @@ use Rattle.cm_trees.specs.Kids.{IsKid}
 use Rattle.cm_order.specs.declared.search.VisitResult.{VisitResult}
 use Rattle.cm_order.specs.declared.search.VisitResult.TheVariants.{Below}
 use Rattle.cm_order.specs.Glances.{IsFreeKid, IsGlance, KnowsDependents, AreKidsShut}
-use Rattle.cm_order.specs.Plans.{IsFreeOnTheWay, IsKnownLevel, IsStand, IsDescent, AreKnown, IsPlan, KnowsNone}
+use Rattle.cm_order.specs.Plans.{IsFreeOnTheWay, IsKnownLevel, IsStand, IsDescent, AreKnown, IsPlan, IsLowest, KnowsNone}
 use Rattle.cm_trees.proofs.trees.Trees.{climb, below_self, below_up, below_cases, below_lives, below_least, below_trans, kid_below, kid_higher}
 use Rattle.cm_trees.proofs.trees.Tops.{closing_below}
 use Rattle.cm_order.proofs.lemmas.levels.Glancing.{shut_below}
@@ -159,3 +159,12 @@ kids_on rows plan k s i it lt is own known =
     let stand : IsStand rows plan.top (get_or plan.way.items k s) = stand_at rows plan.top plan.way.items k s it.way lt in
     subst (AreKidsShut rows) own
     (subst (λ (z : Stand). IsTrue z.below_shut → AreKidsShut rows z.inc) (sym is) stand.known.below known)
+
+-- The end of a way from a top, below which a plan tells that all is shut, is reached from there so.
+pub lowest_on : (rows : List Row) (plan : DescentPlan) (k : ℕ) (s : Stand) (top : ℕ) → IsPlan rows plan → k < length plan.way.items → s ≡ get_or plan.way.items k s → plan.top ≡ top → IsTrue s.below_shut → IsLowest rows top s.inc
+lowest_on rows plan k s top it lt is own known =
+    let stand : IsStand rows plan.top s = subst (IsStand rows plan.top) (sym is) (stand_at rows plan.top plan.way.items k s it.way lt) in
+    record {
+      reached = subst (λ t. IsFreeOnTheWay rows t s.inc) own stand.reached;
+      below = stand.known.below known;
+    }
