@@ -2,6 +2,7 @@ use Rattle.std.proofs.Common.{◌≡◌, false, ◌+◌, ◌++◌, ◌∷◌, []
 use Rattle.cm_world.specs.declared.row.Row.{Row}
 use Rattle.cm_world.specs.declared.reply.Entry.{Entry}
 use Rattle.cm_world.specs.declared.event.Event.TheVariants as event
+use Rattle.cm_world.specs.declared.event.NewChild.{NewChild}
 use Rattle.cm_world.specs.declared.reply.Reply.TheVariants as reply
 use Rattle.cm_world.specs.World.{World, rows_fit}
 use Rattle.cm_world.specs.Create.{IsCreateReply, created_row}
@@ -12,6 +13,7 @@ use Rattle.cm_steps.specs.Inside.{world_in}
 use Rattle.cm_steps.proofs.lemmas.steps.Stepping.{one_pushed, kept_rows}
 use Rattle.cm_steps.proofs.lemmas.expiries.Removing.{tasked_added}
 use Rattle.cm_steps.proofs.lemmas.read.Creations.{created_fits}
+use Rattle.cm_table.specs.Change.{with_row as row_added}
 use Rattle.cm_cache.proofs.lemmas.histories.Dooming.{others_doom_none}
 use Rattle.cm_steps.proofs.realm.Realm.add_child.Goals as goal
 
@@ -27,7 +29,8 @@ add_row-requires-clause-room c =
 
 pub add_row-requires-clause-takes : goal.add_row-requires-clause-takes
 add_row-requires-clause-takes c =
-    subst (λ (v : World). CanTakeChild v.rows c.args.parent c.args.child.coll c.args.child.name) (ap world_of (sym c.self.view_is) ∙ c.self.invariant.stands.world) c.requires.takes
+    subst (λ (child : NewChild). CanTakeChild c.self.inside.table.rows c.args.parent child.coll child.name) (sym c.get.ensures)
+    (subst (λ (v : World). CanTakeChild v.rows c.args.parent c.args.child.coll c.args.child.name) (ap world_of (sym c.self.view_is) ∙ c.self.invariant.stands.world) c.requires.takes)
 
 pub invariant_of-self-2 : goal.invariant_of-self-2
 invariant_of-self-2 c =
@@ -47,7 +50,7 @@ invariant_of-self-2 c =
     (tasked_added w.rows w.acts row refl c.self.invariant.tasks)
     (record {
       frame = refl;
-      table = c.in_ok-inc.ensures.table;
+      table = subst (λ (child : NewChild). c.add_row.new.table ≡ row_added (created_row c.self.inside.table.next_inc c.args.parent child.coll child.name child.url child.gives) c.self.inside.table) c.get.ensures c.in_ok-inc.ensures.table;
       acts = refl;
       resolves = refl;
       joins = refl;
