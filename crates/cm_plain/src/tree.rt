@@ -26,8 +26,8 @@ pub enum JsonTree<'a> {
     Object(Vec<(&'a str, JsonTree<'a>)>),
 }
 
-/// Whether two lists of bytes of one length are the same. Keys are short: one byte after the other takes a
-/// quarter of what `==` takes for eight of them.
+/// Whether two lists of bytes of one length are the same. Keys are short, so one byte is compared after the
+/// other.
 #[inline(always)]
 fn same_bytes(bytes: &[u8], others: &[u8]) -> bool
     requires { length bytes.now ≡ length others.now }
