@@ -4,7 +4,7 @@ use Rattle.std.specs.Prelude.{◌≡◌, ◌≢◌, ◌⊎◌, ℕ, ◌+◌, ◌
 use Rattle.std.specs.Prelude.{Contains, length, map, take, ⊤, Option, Some}
 use Rattle.std.specs.List.{AllZip}
 use Rattle.std.specs.Str.{bytes_eq}
-use Rattle.std.specs.Io.KnownBytes.{Appends, IsAtEnd}
+use Rattle.std.specs.Io.KnownBytes.{IsAtEnd}
 use Rattle.cm_io.specs.declared.door.DoorCounts.{DoorCounts}
 use Rattle.cm_io.specs.Lines.{lines, Moves}
 use Rattle.cm_io.specs.Orders.{MovesCame, InStep, Move, given_in, hung_up}
@@ -23,8 +23,8 @@ use Rattle.cm_session.specs.declared.served.Cause.{Cause}
 use Rattle.cm_session.specs.declared.served.Cause.TheVariants as cause
 use Rattle.cm_session.specs.Links.{BeginsWithBytes, LinkView, whole_lines}
 use Rattle.cm_session.specs.Serving.{IsNewLink, back_view}
-use Rattle.cm_session.specs.Session.{AreEnded, OutOfMemoryLast, WrotePrefix, most_lines, quit}
-use Rattle.cm_session.specs.LineOutcome.{LineOutcome, ReadsLine, reply_line, replies, done_of, HadMemory}
+use Rattle.cm_session.specs.Session.{AreEnded, OutOfMemoryLast, WroteUnlessFailed, most_lines, quit}
+use Rattle.cm_session.specs.LineOutcome.{LineOutcome, ReadsLine, reply_line, done_of, HadMemory}
 use Rattle.cm_program.specs.Headline.{EndsWell, WorksEach}
 use Rattle.cm_program.specs.declared.ran.Ran.{Ran}
 use Rattle.cm_program.specs.Run.{IsServeStatus}
@@ -87,11 +87,9 @@ module _ {L : Type 0} (view : L → LinkView) where
     pub all : status ≢ 6 → now.source.faults ≡ 0 → now.sink.faults ≡ 0 → ServedAllLines now.source.left sat
     pub whole : status ≢ 6 → now.sink.faults ≡ 0
         → BeginsWithBytes sat.lines_done (whole_session_lines sat.bytes)
-    -- what was written is the replies, where the link never failed as a sink; and else they may break off in
-    -- the last one
-    pub wrote : status ≢ 6 → now.sink.faults ≡ 0
-        → Appends (view came).sink.written now.sink.written (replies sat.told)
-    pub prefix : WrotePrefix (view came).sink.written now.sink.written sat.told
+    -- what was written is the replies, whatever the status; they break off only in the last one, and only
+    -- where the link's count of failed writes rose
+    pub wrote : WroteUnlessFailed (view came).sink now.sink sat.told
     pub had_memory : status ≢ 6 → All HadMemory sat.told
     -- whatever the status, no line but a link's last was answered for lack of memory
     pub out_of_memory_last : OutOfMemoryLast sat.told

@@ -53,14 +53,19 @@ pub record BreaksOff (old new : Option TextBytes) (told : List LineOutcome) : Ty
   pub count : ℕ
   pub wrote : Appends old new (replies before ++ take count (reply_line last))
 
--- all replies were written, or they break off in the last one
-abbrev pub WrotePrefix : Option TextBytes → Option TextBytes → List LineOutcome → Type 0
-WrotePrefix old new told = Appends old new (replies told) ⊎ BreaksOff old new told
+-- the replies break off in the last one, since the sink failed in it: its count of faults rose
+abbrev pub FailedInLast : AsSink → AsSink → List LineOutcome → Type 0
+FailedInLast old new told = BreaksOff old.written new.written told × Rose old.faults new.faults
+
+-- all replies were written whole, unless the sink failed in the last one
+abbrev pub WroteUnlessFailed : AsSink → AsSink → List LineOutcome → Type 0
+WroteUnlessFailed old new told =
+    Appends old.written new.written (replies told) ⊎ FailedInLast old new told
 
 -- what was written of the replies, by how the session ended
 abbrev pub Wrote : Ended → AsSink → AsSink → List LineOutcome → Type 0
-Wrote ended.WriteFault old new told = BreaksOff old.written new.written told × Rose old.faults new.faults
-Wrote ended.Memory old new told = WrotePrefix old.written new.written told
+Wrote ended.WriteFault old new told = FailedInLast old new told
+Wrote ended.Memory old new told = WroteUnlessFailed old new told
 Wrote end old new told = Appends old.written new.written (replies told)
 
 -- pass and gates are as they were; or the pass has only grown by whole calls of its caller, with the

@@ -1,7 +1,7 @@
 -- Inside.
 -- What a session has in hand, from line to line.
-use Rattle.std.specs.Prelude.{◌≡◌, ◌≢◌, ◌⊎◌, ◌≤◌, ℕ, List, [], ◌++◌, map, true, Option, Some, None, Result}
-use Rattle.std.specs.Prelude.{Err}
+use Rattle.std.specs.Prelude.{◌≡◌, ◌≢◌, ◌⊎◌, ◌≤◌, ℕ, List, [], ◌++◌, map, true, false, Option, Some, None}
+use Rattle.std.specs.Prelude.{Result, Err}
 use Rattle.std.specs.Io.KnownBytes.{Appends}
 use Rattle.cm_io.specs.Lines.{Moves}
 use Rattle.cm_io.specs.LinesInside.{EndsOnce, IsFirstLine, IsUnbroken, Reader}
@@ -31,12 +31,13 @@ use Rattle.cm_session.specs.LineOutcome.{reply_line, HadMemory}
 use Rattle.cm_session.specs.Session.{quit, KeepsOrNot}
 
 -- what was written of one reply, and whether the session ends for it: it goes on only where all was
--- written and NoWant, that memory sufficed, holds
+-- written and NoWant, that memory sufficed, holds; and the reply breaks off only where the sink failed
 abbrev pub LineWrote : Option Ended → Side → Side → TextBytes → Type 0 → Type 0
 LineWrote None old new text NoWant = Appends old.written new.written text × (new.faults ≡ old.faults) × NoWant
 LineWrote (Some ended.WriteFault) old new text NoWant =
     GrowsByPrefix old.written new.written text × Rose old.faults new.faults × NoWant
-LineWrote (Some ended.Memory) old new text NoWant = GrowsByPrefix old.written new.written text
+LineWrote (Some ended.Memory) old new text NoWant = Appends old.written new.written text
+    ⊎ (GrowsByPrefix old.written new.written text × Rose old.faults new.faults)
 LineWrote (Some ended.End) old new text NoWant = ⊥
 LineWrote (Some ended.Quit) old new text NoWant = ⊥
 LineWrote (Some ended.ReadFault) old new text NoWant = ⊥
@@ -49,6 +50,13 @@ pub record RepliesInOrder (end : Option Ended) (old new : Option (List Move))
   pub pieces : List TextBytes
   pub came : MovesCame old new (map wrote_move pieces)
   pub whole : end ≡ None → joined pieces ≡ text
+
+-- a line that is no command was answered with this text; or nothing was written, since there was no
+-- memory for the text
+abbrev pub AnsweredOrNot : Side → Side → TextBytes → Option Ended → Type 0
+AnsweredOrNot old new text end =
+    (LineWrote end old new text (false ≡ false) × RepliesInOrder end old.order new.order text)
+    ⊎ ((end ≡ Some ended.Memory) × (new ≡ old))
 
 -- what a caller does for a line in the history: it performs the line's command, or nothing
 abbrev pub DoesLine : Frame → ℕ → LineOutcome → List Entry → List Entry → Type 0

@@ -9,7 +9,8 @@ ghost use Rattle.cm_io.specs.Orders.{hung_up};
 ghost use Rattle.cm_session.specs.Links.{source_view, view_of};
 ghost use Rattle.cm_session.specs.LinksInside.{side_view};
 ghost use Rattle.cm_session.specs.Session.{Session, SessionClosedBy, SessionWith};
-ghost use Rattle.cm_session.specs.Steps.{LineWrote, RepliesInOrder, ServedCommand, ServedOrNot, Stepped};
+ghost use Rattle.cm_session.specs.Steps.{AnsweredOrNot, LineWrote, RepliesInOrder, ServedCommand};
+ghost use Rattle.cm_session.specs.Steps.{ServedOrNot, Stepped};
 
 use crate::Ended;
 use cm_command::{Command, CommandFault, read_command};
@@ -66,7 +67,7 @@ fn refusal_line(alloc: Global, at: u32) -> Result<Text, Memory>
     Ok(text)
 }
 
-/// Writes a reply. The result says why the session ends for it, if it does.
+/// Writes a reply, whole unless the link fails. The result says why the session ends for it, if it does.
 fn put_reply<R: Threads + Wait + Sync, L: Link>(
     rt: &R,
     link: &mut L,
@@ -88,17 +89,17 @@ fn put_reply<R: Threads + Wait + Sync, L: Link>(
     }
 }
 
-/// Answers a line that is no command. The result says why the session ends for it, if it does.
+/// Answers a line that is no command, or writes nothing where memory runs out for the answer. The result
+/// says why the session ends for it, if it does.
 fn refuse<R: Threads + Wait + Sync, L: Link>(
     rt: &R,
     alloc: Global,
     link: &mut L,
     at: u32,
 ) -> Option<Ended>
-    ensures wrote { LineWrote result (side_view L.Source L.Sink link.old) (side_view L.Source L.Sink link.new)
-        (line_of (codes "refused 70 bad-command at " ++ decimal at)) (false ≡ false) }
-    ensures ordered { RepliesInOrder result (L.Source.order link.old) (L.Source.order link.new)
-        (line_of (codes "refused 70 bad-command at " ++ decimal at)) }
+    ensures answered { AnsweredOrNot (side_view L.Source L.Sink link.old)
+        (side_view L.Source L.Sink link.new) (line_of (codes "refused 70 bad-command at " ++ decimal at))
+        result }
     ensures source { source_view L.Source link.new ≡ source_view L.Source link.old }
 {
     match refusal_line(alloc, at) {
@@ -227,8 +228,8 @@ pub(crate) fn serve<R: Threads + Wait + Sync, G: Gates, L: Link>(
 ///
 /// The end is `ReadFault` only if a failed read of this link was counted meanwhile, and `WriteFault`
 /// only if a failed write was; `LinesSpent` after 1,048,576 lines. `Memory` comes where memory ran
-/// out for a line or its reply, also where the link failed then. Whatever the end, the link is hung
-/// up.
+/// out for a line or its reply, also where the link failed then. Each reply is written whole, and the
+/// last one breaks off only if a failed write was counted. Whatever the end, the link is hung up.
 ///
 /// It calls [`serve`] with a caller of this pass and these gates, as the workers of a server do with a
 /// caller of their own.

@@ -1,6 +1,6 @@
 -- What came of one link, by its own counts.
 use Rattle.std.proofs.Common.{◌≡◌, ◌≢◌, inl, inr, ℕ, ◌+◌, ◌-◌, ◌^◌, ◌<◌, ◌≤◌, min, ◌⊎◌, List, [], ◌∷◌, All, Contains, Option, length, refl, sym, ◌∙◌, subst, append-nil, arith}
-use Rattle.std.specs.Io.KnownBytes.{Appends, IsAtEnd}
+use Rattle.std.specs.Io.KnownBytes.{IsAtEnd}
 use Rattle.cm_io.specs.Lines.{lines}
 use Rattle.cm_io.specs.Outside.{AsSink, Rose}
 use Rattle.cm_reply.specs.Lists.{TextBytes}
@@ -12,8 +12,8 @@ use Rattle.cm_session.specs.declared.ended.Ended.{Ended}
 use Rattle.cm_session.specs.declared.ended.Ended.TheVariants as ended
 use Rattle.cm_session.specs.Links.{BeginsWithBytes, LinkView, whole_lines}
 use Rattle.cm_session.specs.Serving.{IsNewLink, IsOfLink}
-use Rattle.cm_session.specs.Session.{Served, Session, Wrote, WrotePrefix, most_lines, quit}
-use Rattle.cm_session.specs.LineOutcome.{LineOutcome, done_of, replies}
+use Rattle.cm_session.specs.Session.{Served, Session, Wrote, WroteUnlessFailed, most_lines, quit}
+use Rattle.cm_session.specs.LineOutcome.{LineOutcome, done_of}
 use Rattle.cm_program.specs.Sessions.{ServedAllLines, IsSessionOf, SessionRecord, whole_session_lines}
 use Rattle.cm_program.proofs.lemmas.links.SessionLines.{all_lines, first_lines, lines_spent, lines_to_quit, quit_given, whole_read, whole_served}
 
@@ -61,23 +61,14 @@ module _ (bytes : TextBytes) (done : List TextBytes) (left : Option TextBytes) w
     whole_of ended.WriteFault s w other write = absurd (not_risen old.faults new.faults w.1 write)
     whole_of ended.Memory s w other write = absurd (other refl)
 
--- A session that kept its sink well, and had memory, wrote all replies.
-wrote_of : (end : Ended) (old new : AsSink) (told : List LineOutcome) → Wrote end old new told → end ≢ ended.Memory → new.faults ≡ 0 → Appends old.written new.written (replies told)
-wrote_of ended.End old new told w other write = w
-wrote_of ended.Quit old new told w other write = w
-wrote_of ended.LinesSpent old new told w other write = w
-wrote_of ended.ReadFault old new told w other write = w
-wrote_of ended.WriteFault old new told w other write = absurd (not_risen old.faults new.faults w.1 write)
-wrote_of ended.Memory old new told w other write = absurd (other refl)
-
--- A session wrote the replies or a prefix of them, however it ended.
-prefix_of : (end : Ended) (old new : AsSink) (told : List LineOutcome) → Wrote end old new told → WrotePrefix old.written new.written told
-prefix_of ended.End old new told w = inl w
-prefix_of ended.Quit old new told w = inl w
-prefix_of ended.LinesSpent old new told w = inl w
-prefix_of ended.ReadFault old new told w = inl w
-prefix_of ended.WriteFault old new told w = inr w.0
-prefix_of ended.Memory old new told w = w
+-- A session wrote all replies unless its sink failed in the last one, however it ended.
+wrote_of : (end : Ended) (old new : AsSink) (told : List LineOutcome) → Wrote end old new told → WroteUnlessFailed old new told
+wrote_of ended.End old new told w = inl w
+wrote_of ended.Quit old new told w = inl w
+wrote_of ended.LinesSpent old new told w = inl w
+wrote_of ended.ReadFault old new told w = inl w
+wrote_of ended.WriteFault old new told w = inr w
+wrote_of ended.Memory old new told w = w
 
 -- ---- one link
 
@@ -101,8 +92,7 @@ module _ {L : Type 0} (view : L → LinkView) (status : ℕ) where
       ended = s.ended_lines;
       all = λ other read write. all_of s.bytes s.lines_done now.source.left s.no_quit s.few (view came).sink now.sink s.told (view came).source.faults now.source.faults end s.served s.wrote s.read_fault (well other) read write;
       whole = λ other write. whole_of s.bytes s.lines_done now.source.left s.no_quit s.few (view came).sink now.sink s.told (view came).source.faults now.source.faults end s.served s.wrote (well other) write;
-      wrote = λ other write. wrote_of end (view came).sink now.sink s.told s.wrote (well other) write;
-      prefix = prefix_of end (view came).sink now.sink s.told s.wrote;
+      wrote = wrote_of end (view came).sink now.sink s.told s.wrote;
       had_memory = λ other. s.had_memory (well other);
       out_of_memory_last = s.out_of_memory_last;
       moves = s.moves;

@@ -144,7 +144,3 @@ put-ordered end a b x y text p first last puts done = record {
 -- Where a session ends, its replies are in order whatever was put, if the put was.
 pub put-last : (e : Ended) (a b x y : Option (List Move)) (text : TextBytes) (p : Put) → a ≡ x → b ≡ y → PutsInOrder x y text p → RepliesInOrder (Some e) a b text
 put-last e a b x y text p first last puts = put-ordered (Some e) a b x y text p first last puts (λ is. absurd (none-some e (sym is)))
-
--- Where nothing was put, a session that ends put its replies in order.
-pub put-none : (e : Ended) (o : Option (List Move)) (text : TextBytes) → RepliesInOrder (Some e) o o text
-put-none e o text = record { pieces = []; came = came-none o; whole = λ is. absurd (none-some e (sym is)) }

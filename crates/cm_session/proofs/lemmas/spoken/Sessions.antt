@@ -2,7 +2,6 @@
 use Rattle.std.proofs.Common.{◌≡◌, ◌≢◌, ◌≤◌, ◌<◌, ◌⊎◌, inl, inr, ℕ, ◌+◌, Bool, true, false, List, [], ◌∷◌, ◌++◌, take, length, length-append, refl, ap, sym, ◌∙◌, subst, append_assoc, append-nil, true≢false, Option, Some, None, Result, Err, All, map, arith}
 use Rattle.std.proofs.lemmas.List.{map-append}
 use Rattle.std.specs.List.{AllZip}
-use lib.Seq.{take_all}
 use Rattle.std.proofs.lemmas.List.Concat.{flat_map-append}
 use Rattle.std.proofs.lemmas.List.Elements.{All-append}
 use Rattle.std.specs.Io.KnownBytes.{Appends, IsAtEnd}
@@ -14,7 +13,7 @@ use Rattle.cm_io.specs.LinesInside.{EndsOnce, IsFirstLine, Reader}
 use Rattle.cm_io.specs.Orders.{MovesCame, InStep, Move, given_in, hung_up}
 use Rattle.cm_io.specs.OrdersInside.{Pulled}
 use Rattle.cm_io.specs.Outside.{AsSink, AsSource, Rose}
-use Rattle.cm_io.specs.OutsideInside.{PutsAll}
+use Rattle.cm_io.specs.OutsideInside.{PutCause, PutsAll}
 use Rattle.cm_io.proofs.lemmas.Ordering.{came-none, came-trans}
 use Rattle.cm_io.specs.declared.output.Put.{Put}
 use Rattle.cm_io.specs.declared.output.Put.TheVariants as put
@@ -40,8 +39,8 @@ use Rattle.cm_session.specs.declared.ended.Ended.TheVariants as ended
 use Rattle.cm_session.specs.Links.{BeginsWithBytes, LinkView, whole_lines}
 use Rattle.cm_session.specs.LinksInside.{GrowsByPrefix, Side, side_of, side_with}
 use Rattle.cm_session.specs.LineOutcome.{LineOutcome, performed, bad, too_long, ReadsLine, reply_line, replies, done_of, HadMemory}
-use Rattle.cm_session.specs.Session.{AreEnded, BreaksOff, KeepsOrNot, Served, Session, SessionClosedBy, OutOfMemoryLast, Wrote, most_lines, quit}
-use Rattle.cm_session.specs.Steps.{IsSilent, LineDone, LineWrote, RepliesInOrder, ServedCommand, ServedLine, ServedOrNot, StepBy, Stepped}
+use Rattle.cm_session.specs.Session.{AreEnded, BreaksOff, FailedInLast, KeepsOrNot, Served, Session, SessionClosedBy, OutOfMemoryLast, Wrote, WroteUnlessFailed, most_lines, quit}
+use Rattle.cm_session.specs.Steps.{AnsweredOrNot, IsSilent, LineDone, LineWrote, RepliesInOrder, ServedCommand, ServedLine, ServedOrNot, StepBy, Stepped}
 use Rattle.cm_session.proofs.lemmas.spoken.Cutting.{Cut, cut-begins, cut-end, cut-ended, cut-ended-so-far, cut-fault, cut-more, cut-next, cut-none}
 use Rattle.cm_session.proofs.lemmas.spoken.Order.{HasRead, InHand, has-read, in-hand-more, in-hand-none, moves_behind, moves_with, read-came, read-given, reply-came, reply-given, reply-in_step}
 use Rattle.cm_session.proofs.lemmas.spoken.Kept.{GoesOn, does_as, goes_all, goes_more, goes_none, kept_same, kept_then}
@@ -84,18 +83,10 @@ rose-later a b c le rose = omega (arith, le, rose)
 same-sink : (old : Option TextBytes) (now then : LinkView) (mid : Option (List Move)) (text : TextBytes) → Appends old now.sink.written text → side_of then ≡ side_with now mid → Appends old then.sink.written text
 same-sink old now then mid text wrote same = subst (λ (s : Side). Appends old s.written text) (sym same) wrote
 
--- all of the earlier replies and a prefix of the next one
-breaks-off : (a b c : Option TextBytes) (told : List LineOutcome) (t : LineOutcome) → Appends a b (replies told) → GrowsByPrefix b c (reply_line t) → BreaksOff a c (told ++ t ∷ [])
-breaks-off a b c told t h (n, k) = record { before = told; last = t; all = refl; count = n; wrote = Appends-trans a b c (replies told) (take n (reply_line t)) h k }
-
 -- Lines that were taken are whole ones, or the end came behind them.
 ended-by : (bytes : TextBytes) (done : List TextBytes) (over : Bool) (left : Option TextBytes) → (over ≡ true → IsAtEnd left) → BeginsWithBytes (whole_lines bytes) done ⊎ (over ≡ true) → AreEnded bytes done left
 ended-by bytes done over left end (inl begins) = inl begins
 ended-by bytes done over left end (inr is) = inr (end is)
-
--- bytes that were written are a prefix of themselves
-pub whole-prefix : (a b : Option TextBytes) (xs : TextBytes) → Appends a b xs → GrowsByPrefix a b xs
-whole-prefix a b xs h = (length xs, subst (Appends a b) (sym (take_all (length xs) xs (omega arith))) h)
 
 -- ---- lists
 
@@ -110,9 +101,33 @@ zip-push R [] (b ∷ ys) x y h r = absurd h
 zip-push R (a ∷ xs) [] x y h r = absurd h
 zip-push R (a ∷ xs) (b ∷ ys) x y h r = (h.0, zip-push R xs ys x y h.1 r)
 
+-- ---- the replies that were written
+
 -- The replies to lines with one more are the replies to them and the reply to that line.
 replies-push : (xs : List LineOutcome) (t : LineOutcome) → replies (xs ++ t ∷ []) ≡ replies xs ++ reply_line t
 replies-push xs t = flat_map-append reply_line xs (t ∷ []) ∙ ap (λ (l : TextBytes). replies xs ++ l) (append-nil (reply_line t))
+
+-- All of the earlier replies and all of the next one are all replies.
+writes-more : (a b c : Option TextBytes) (told : List LineOutcome) (t : LineOutcome) → Appends a b (replies told) → Appends b c (reply_line t) → Appends a c (replies (told ++ t ∷ []))
+writes-more a b c told t before reply = subst (Appends a c) (sym (replies-push told t)) (Appends-trans a b c (replies told) (reply_line t) before reply)
+
+-- all of the earlier replies and a prefix of the next one
+breaks-off : (a b c : Option TextBytes) (told : List LineOutcome) (t : LineOutcome) → Appends a b (replies told) → GrowsByPrefix b c (reply_line t) → BreaksOff a c (told ++ t ∷ [])
+breaks-off a b c told t h (n, k) = record { before = told; last = t; all = refl; count = n; wrote = Appends-trans a b c (replies told) (take n (reply_line t)) h k }
+
+-- The replies break off in the last one, where those before it were written and the sink failed in it.
+failed-in-last : (old now then : AsSink) (told : List LineOutcome) (t : LineOutcome) → Appends old.written now.written (replies told) → now.faults ≡ old.faults
+    → GrowsByPrefix now.written then.written (reply_line t) × Rose now.faults then.faults → FailedInLast old then (told ++ t ∷ [])
+failed-in-last old now then told t before same part =
+    (breaks-off old.written now.written then.written told t before part.0, subst (λ (m : ℕ). Rose m then.faults) same part.1)
+
+-- The replies were written unless the sink failed in the last one, where those before it were and it was.
+unless-failed : (old now then : AsSink) (told : List LineOutcome) (t : LineOutcome) → Appends old.written now.written (replies told) → now.faults ≡ old.faults
+    → Appends now.written then.written (reply_line t) ⊎ (GrowsByPrefix now.written then.written (reply_line t) × Rose now.faults then.faults) → WroteUnlessFailed old then (told ++ t ∷ [])
+unless-failed old now then told t before same (inl all) = inl (writes-more old.written now.written then.written told t before all)
+unless-failed old now then told t before same (inr part) = inr (failed-in-last old now then told t before same part)
+
+-- ---- the lines that had memory
 
 -- no line was answered for lack of memory, so none but the last was
 none-wants : (told : List LineOutcome) → All HadMemory told → OutOfMemoryLast told
@@ -203,8 +218,7 @@ going-more manifests p q r g h k old now then before after n go s =
       reads = zip-push ReadsLine go.lines_done go.told l.line v.told go.reads v.reads;
       no_quit = all-push (λ (t : TextBytes). t ≢ quit) go.lines_done l.line go.no_quit l.other;
       goes_on = goes_more (frame_of p) p.caller go.told v.told p.seen q.seen r.seen go.goes_on (does_as manifests p q r g h v.told go.keeps v.does);
-      wrote = subst (Appends old.sink.written then.sink.written) (sym (replies-push go.told v.told))
-          (Appends-trans old.sink.written now.sink.written then.sink.written (replies go.told) (reply_line v.told) go.wrote v.wrote.0);
+      wrote = writes-more old.sink.written now.sink.written then.sink.written go.told v.told go.wrote v.wrote.0;
       unfailed = v.wrote.1 ∙ go.unfailed;
       had_memory = all-push HadMemory go.told v.told go.had_memory v.wrote.2;
       moves = moves_with rs go.moves now.order s.mid then.order s.given (reply_line v.told) None read v.ordered;
@@ -315,7 +329,7 @@ going-ends manifests p q r g h k old now then before after n ended.ReadFault go 
 going-ends manifests p q r g h k old now then before after n ended.WriteFault go lt s =
     let l = s.by in
     with-line manifests p q r g h k old now then before after n ended.WriteFault go s l (λ bytes ls left begins. begins)
-    (breaks-off old.sink.written now.sink.written then.sink.written go.told l.served.told go.wrote l.served.wrote.0, subst (λ (m : ℕ). Rose m then.sink.faults) go.unfailed l.served.wrote.1)
+    (failed-in-last old.sink now.sink then.sink go.told l.served.told go.wrote go.unfailed (l.served.wrote.0, l.served.wrote.1))
     (λ other. l.served.wrote.2) write-is-no-fault lt
 going-ends manifests p q r g h k old now then before after n ended.LinesSpent go lt s = absurd s.by
 going-ends manifests p q r g h k old now then before after n ended.Memory go lt s =
@@ -325,7 +339,7 @@ going-ends manifests p q r g h k old now then before after n ended.Memory go lt 
           (inl (same-sink old.sink.written now then s.mid (replies go.told) go.wrote silent.sink))
           (λ is. absurd (memory-is-no-fault is)) lt
       | inr l ↦ with-line manifests p q r g h k old now then before after n ended.Memory go s l (λ bytes ls left begins. begins)
-          (inr (breaks-off old.sink.written now.sink.written then.sink.written go.told l.served.told go.wrote l.served.wrote))
+          (unless-failed old.sink now.sink then.sink go.told l.served.told go.wrote go.unfailed l.served.wrote)
           (λ other. absurd (other refl)) memory-is-no-fault lt
     ]
 
@@ -412,10 +426,10 @@ session-over manifests p q g h old mid new end source sink hung before =
 
 -- ---- one reply
 
--- what was put is a prefix of the text
-pub put-prefix : (a b : Option TextBytes) (text : TextBytes) (p : Put) → PutsAll a b text p → GrowsByPrefix a b text
-put-prefix a b text put.Done h = whole-prefix a b text h
-put-prefix a b text (put.WriteFault n) h = (n, h.1)
+-- What was put is the whole text, or a prefix of it, and then the sink's count of faults rose.
+pub put-unless-failed : (a b : Option TextBytes) (m n : ℕ) (text : TextBytes) (p : Put) → PutsAll a b text p → PutCause m n p → Appends a b text ⊎ (GrowsByPrefix a b text × Rose m n)
+put-unless-failed a b m n text put.Done puts cause = inl puts
+put-unless-failed a b m n text (put.WriteFault k) puts cause = inr ((k, puts.1), omega (arith, cause.1))
 
 -- a reply that says so much tells what follows of it
 pub wrote-as : (V W : Type 0) (end : Option Ended) (old new : Side) (text : TextBytes) → (V → W) → LineWrote end old new text V → LineWrote end old new text W
@@ -474,10 +488,11 @@ bad-is-no-want n e = cc
 pub bad-fault : (t : TextBytes) (fault : CommandFault) (at : ℕ) → fault ≡ BadCommand at → (fault ≢ OutOfMemory → IsCommandFault t fault) → IsCommandFault t (BadCommand at)
 bad-fault t fault at is of = subst (λ (x : CommandFault). IsCommandFault t x) is (of (λ e. bad-is-no-want at (sym is ∙ e)))
 
--- a line that is no command was answered
+-- a line that is no command was answered, or nothing was done for lack of memory
 pub line-bad : (manifests : Manifests) (p : RealmPass) (g : GatesView) (t : TextBytes) (at : ℕ) (old new : Side) (end : Option Ended)
-    → length t ≤ 65536 → IsCommandFault t (BadCommand at) → LineWrote end old new (reply_line (bad at)) (false ≡ false) → RepliesInOrder end old.order new.order (reply_line (bad at)) → ServedOrNot manifests p p g g t old new end
-line-bad manifests p g t at old new end short is wrote ordered = inl (record {
+    → length t ≤ 65536 → IsCommandFault t (BadCommand at) → AnsweredOrNot old new (reply_line (bad at)) end → ServedOrNot manifests p p g g t old new end
+line-bad manifests p g t at old new end short is (inr (wants, same)) = inr (wants, record { pass = refl; gates = refl; sink = same })
+line-bad manifests p g t at old new end short is (inl (wrote, ordered)) = inl (record {
   told = bad at;
   reads = (short, is);
   keeps = kept_same manifests p g;

@@ -1,11 +1,12 @@
 use Rattle.std.proofs.Common.{refl}
 use Rattle.cm_session.specs.declared.ended.Ended.TheVariants as ended
 use Rattle.cm_session.proofs.lemmas.spoken.Order.{put-last, put-ordered}
-use Rattle.cm_session.proofs.lemmas.spoken.Sessions.{put-prefix}
+use Rattle.cm_session.proofs.lemmas.spoken.Sessions.{put-unless-failed}
 use Rattle.cm_session.proofs.lines.put_reply.Goals as goal
 
 pub returns-then-wanting-clause-wrote : goal.returns-then-wanting-clause-wrote
-returns-then-wanting-clause-wrote g c = put-prefix _ _ c.args.text.now c.put_all-put.result c.put_all-put.ensures.bytes
+returns-then-wanting-clause-wrote g c =
+    put-unless-failed _ _ _ _ c.args.text.now c.put_all-put.result c.put_all-put.ensures.bytes c.put_all-put.ensures.cause
 
 pub returns-then-wanting-clause-ordered : goal.returns-then-wanting-clause-ordered
 returns-then-wanting-clause-ordered g c =

@@ -11,4 +11,4 @@ pub returns-in-Err-BadCommand-clause-served : goal.returns-in-Err-BadCommand-cla
 returns-in-Err-BadCommand-clause-served g c =
     let is : c.in-Err-BadCommand.field-0 ≡ BadCommand c.in-Err-BadCommand.at = search rules in
     let fault = bad-fault c.args.line.now c.in-Err-BadCommand.field-0 c.in-Err-BadCommand.at is c.in-Err-BadCommand.ensures.fault in
-    line-bad _ _ _ c.args.line.now c.in-Err-BadCommand.at _ _ _ c.requires.short fault c.refuse.ensures.wrote c.refuse.ensures.ordered
+    line-bad _ _ _ c.args.line.now c.in-Err-BadCommand.at _ _ _ c.requires.short fault c.refuse.ensures.answered
