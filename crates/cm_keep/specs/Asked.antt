@@ -2,9 +2,10 @@
 -- What a place of files is asked for the keeping of a journal, call by call.
 use Rattle.std.specs.Prelude.{◌≡◌, ◌⊎◌, ℕ, List, [], ◌∷◌, ◌++◌, true, false, Option, Some, None}
 use Rattle.cm_reply.specs.Lists.{TextBytes}
-use Rattle.cm_keep.specs.Files.{beside_name}
+use Rattle.cm_keep.specs.Files.{SaysWhere, beside_name}
 use Rattle.cm_keep.specs.declared.place.PlaceCall.{PlaceCall}
 use Rattle.cm_keep.specs.declared.place.PlaceCall.TheVariants as call
+use Rattle.cm_keep.specs.declared.service.Unkept.{Unkept}
 
 -- ---- logs
 
@@ -37,16 +38,21 @@ placing n = call.Sync true ∷ call.Rename n.beside n.place true ∷ []
 abbrev pub giving_up : FileNames → List PlaceCall
 giving_up n = call.Remove n.beside ∷ []
 
+-- it didn't reach the disk, and is given up
+abbrev pub failed_sync : FileNames → List PlaceCall
+failed_sync n = call.Sync false ∷ call.Remove n.beside ∷ []
+
 -- it isn't put into its place: it didn't reach the disk, and is given up; or the renaming failed
 abbrev pub failed_placing : FileNames → List (List PlaceCall)
-failed_placing n =
-    (call.Sync false ∷ call.Remove n.beside ∷ [])
-    ∷ (call.Sync true ∷ call.Rename n.beside n.place false ∷ [])
-    ∷ []
+failed_placing n = failed_sync n ∷ (call.Sync true ∷ call.Rename n.beside n.place false ∷ []) ∷ []
 
 -- a keeper fails: the text is given up before it is whole, or isn't put into its place
 abbrev pub failed_keeping : FileNames → List (List PlaceCall)
 failed_keeping n = giving_up n ∷ failed_placing n
+
+-- a keeper fails, and nothing of the text is left
+abbrev pub letting_go : FileNames → List (List PlaceCall)
+letting_go n = giving_up n ∷ failed_sync n ∷ []
 
 -- ---- all calls of a service
 
@@ -62,13 +68,24 @@ trying n = call.Create n.beside true ∷ call.Remove n.beside ∷ []
 abbrev pub keeping : FileNames → List PlaceCall
 keeping n = call.Create n.beside true ∷ call.Sync true ∷ call.Rename n.beside n.place true ∷ []
 
--- a journal isn't kept: no new file is made; or one is, and is given up before or behind its way to the
--- disk; or the renaming fails, which comes last
-abbrev pub failing : FileNames → List (List PlaceCall)
-failing n =
+-- a journal isn't kept, and nothing of it is left: no new file is made; or one is, and is given up before
+-- or behind its way to the disk
+abbrev pub leaving_nothing : FileNames → List (List PlaceCall)
+leaving_nothing n =
     []
     ∷ (call.Create n.beside false ∷ [])
     ∷ (call.Create n.beside true ∷ call.Remove n.beside ∷ [])
     ∷ (call.Create n.beside true ∷ call.Sync false ∷ call.Remove n.beside ∷ [])
-    ∷ (call.Create n.beside true ∷ call.Sync true ∷ call.Rename n.beside n.place false ∷ [])
     ∷ []
+
+-- a journal isn't kept: nothing of it is left; or the renaming fails, which comes last, and all of it is
+abbrev pub failing : FileNames → List (List PlaceCall)
+failing n =
+    leaving_nothing n
+    ++ (call.Create n.beside true ∷ call.Sync true ∷ call.Rename n.beside n.place false ∷ []) ∷ []
+
+-- of a journal that isn't kept nothing is left, by what the place of files was asked; or why it isn't kept
+-- says where it stands
+abbrev pub IsGoneOrSaysWhere : Option (List PlaceCall) → Option (List PlaceCall) → FileNames → Unkept
+    → Type 0
+IsGoneOrSaysWhere old new n why = AsksOneOf old new (leaving_nothing n) ⊎ SaysWhere n.place n.beside why

@@ -47,3 +47,9 @@ TellsWhere place beside line = (why : TextBytes) × (line
 abbrev pub SaysWhyUnkept : TextBytes → Unkept → Type 0
 SaysWhyUnkept place unkept.Memory = Unit {0}
 SaysWhyUnkept place (unkept.Said line) = IsFaultLine place line
+
+-- why there is no journal at this path though the whole of it stands under the other name: lack of memory,
+-- or what a line says that names both
+abbrev pub SaysWhere : TextBytes → TextBytes → Unkept → Type 0
+SaysWhere place beside unkept.Memory = Unit {0}
+SaysWhere place beside (unkept.Said line) = TellsWhere place beside line

@@ -145,6 +145,8 @@ impl<F: FilePlace + Drop> TextKeeper for FileKeeper<F> {
 
     ghost cleared = { λ k. k.is_pending ≡ false };
 
+    ghost whole = { λ k. k.is_left ≡ true };
+
     ghost faults = { λ k. k.faults };
 
     /// Writes the bytes to the file beside the place. Tells whether that went well.

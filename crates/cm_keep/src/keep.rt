@@ -1,10 +1,10 @@
 //! The journal, piece by piece.
 
-ghost use Rattle.std.specs.Prelude.{◌≡◌, [], IfOk, OnErr, OnOk, string_bytes};
+ghost use Rattle.std.specs.Prelude.{◌≡◌, ◌⊎◌, [], IfOk, OnErr, OnOk, string_bytes};
 ghost use Rattle.std.specs.Io.KnownBytes.{Appends};
 ghost use Rattle.cm_reply.specs.Journal as journal;
 ghost use Rattle.cm_reply.specs.ListsInside.{GainsText};
-ghost use Rattle.cm_keep.specs.Asked.{Asks, AsksOneOf, failed_keeping, placing};
+ghost use Rattle.cm_keep.specs.Asked.{Asks, AsksOneOf, failed_keeping, letting_go, placing};
 ghost use Rattle.cm_keep.specs.Keeping.{Caused, IsKept, IsLeft, Passes, kept_text, rooted};
 
 use crate::TextKeeper;
@@ -174,6 +174,8 @@ pub fn keep_journal<P: TextKeeper>(
         (Asks (P.asked keeper.old) (P.asked keeper.new) (placing (P.names keeper.old))) }
     ensures unkept { OnErr result
         (AsksOneOf (P.asked keeper.old) (P.asked keeper.new) (failed_keeping (P.names keeper.old))) }
+    ensures whole { OnErr result (P.whole keeper.new
+        ⊎ AsksOneOf (P.asked keeper.old) (P.asked keeper.new) (letting_go (P.names keeper.old))) }
     ensures nothing { OnErr result (P.shown keeper.new ≡ P.shown keeper.old) }
     ensures left { IsLeft (P.cleared keeper.new) (P.draft keeper.old) (P.draft keeper.new)
         (kept_text root.now entries.now) result }

@@ -2,7 +2,7 @@
 
 ghost use Rattle.std.specs.Prelude.{◌≡◌, ◌⊎◌, false, true};
 ghost use Rattle.std.specs.Io.KnownBytes.{Appends};
-ghost use Rattle.cm_keep.specs.Asked.{Asks, AsksOneOf, failed_placing, giving_up, placing};
+ghost use Rattle.cm_keep.specs.Asked.{Asks, AsksOneOf, failed_placing, failed_sync, giving_up, placing};
 ghost use Rattle.cm_keep.specs.Keeping.{Counted, PutsUp};
 
 /// A place for one text, which is handed over piece by piece and put there when it is whole. Nobody sees
@@ -33,6 +33,9 @@ pub trait TextKeeper: Drop {
     /// Nothing of what was handed over is held any more, but what stands in the place.
     ghost cleared: { Self → Type 0 };
 
+    /// All of the text is held, though it couldn't be put into the place.
+    ghost whole: { Self → Type 0 };
+
     /// How often it failed.
     ghost faults: { Self → ℕ };
 
@@ -60,6 +63,8 @@ pub trait TextKeeper: Drop {
             AsksOneOf (asked self.old) (asked self.new) (failed_placing (names self.old)) }
         ensures cleared { result ≡ true → cleared self.new }
         ensures held { result ≡ false → cleared self.new ⊎ (draft self.new ≡ draft self.old) }
+        ensures whole { result ≡ false →
+            whole self.new ⊎ Asks (asked self.old) (asked self.new) (failed_sync (names self.old)) }
         ensures cause { Counted (faults self.old) (faults self.new) result };
 
     /// Lets go of the bytes that were handed over and not put there. What stands in the place stays there.

@@ -98,6 +98,8 @@ impl TextKeeper for MemoryKeeper {
 
     ghost cleared = { λ k. k.draft.items ≡ [] };
 
+    ghost whole = { λ _. ⊤ };
+
     ghost faults = { λ k. k.faults };
 
     /// Adds the bytes to the draft, unless this call is planned to fail. Tells whether that went well.

@@ -1,8 +1,9 @@
 //! The journal of a service: where it is to be kept, and its keeping.
 
 ghost use Rattle.std.specs.Prelude.{◌≡◌, ◌⊎◌, true, [], ◌∷◌, IfErr, IfOk, IsOk, MatchResult, OnErr, OnOk};
-ghost use Rattle.cm_keep.specs.Asked.{Asks, AsksOneOf, failed_keeping, failing, names_at, placing, trying};
-ghost use Rattle.cm_keep.specs.Asked.{keeping as keeping_calls, unmade};
+ghost use Rattle.cm_keep.specs.Asked.{Asks, AsksOneOf, IsGoneOrSaysWhere, failed_keeping, failing};
+ghost use Rattle.cm_keep.specs.Asked.{keeping as keeping_calls, letting_go, names_at, placing, trying};
+ghost use Rattle.cm_keep.specs.Asked.{unmade};
 ghost use Rattle.cm_keep.specs.Files.{SaysWhyUnkept, IsTried, NeverBegan, StandsAt, beside_name};
 ghost use Rattle.cm_keep.specs.Keeping.{Caused, IsKept, IsLeft, kept_text};
 ghost use Rattle.cm_keep.specs.Service.{Plans};
@@ -127,6 +128,8 @@ pub fn keep_book<P: TextKeeper>(
         (Asks (P.asked keeper.old) (P.asked keeper.new) (placing (P.names keeper.old))) }
     ensures unkept { OnErr result
         (AsksOneOf (P.asked keeper.old) (P.asked keeper.new) (failed_keeping (P.names keeper.old))) }
+    ensures whole { OnErr result (P.whole keeper.new
+        ⊎ AsksOneOf (P.asked keeper.old) (P.asked keeper.new) (letting_go (P.names keeper.old))) }
     ensures nothing { OnErr result (P.shown keeper.new ≡ P.shown keeper.old) }
     ensures left { IsLeft (P.cleared keeper.new) (P.draft keeper.old) (P.draft keeper.new)
         (kept_text keeping.now.root book.now.entries) result }
@@ -141,6 +144,9 @@ pub fn keep_book<P: TextKeeper>(
 /// At `Ok` that is so, or the journal stands in the file whose name was asked for. Nothing is asked of
 /// `files` but a new file beside its place, which reaches the disk and is renamed; where that fails, no more
 /// than a first part of it, and that the new file is taken away. They come back.
+///
+/// `Err` says why there is no journal at the path. Where the whole of it stands in a file that couldn't be
+/// renamed, it names that file, unless memory runs out for that.
 pub fn keep_service<F: FilePlace + Drop>(
     alloc: Global,
     files: F,
@@ -159,6 +165,8 @@ pub fn keep_service<F: FilePlace + Drop>(
     ensures failed { OnErr result.1
         (AsksOneOf (F.asked files) (F.asked result.0) (failing (names_at keeping.now.at number))) }
     ensures told { IfErr result.1 (SaysWhyUnkept keeping.now.at) }
+    ensures left { IfErr result.1
+        (IsGoneOrSaysWhere (F.asked files) (F.asked result.0) (names_at keeping.now.at number)) }
 {
     if status != 0 && book.entries().is_empty() {
         return (files, Ok(()));

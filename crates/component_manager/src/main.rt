@@ -11,7 +11,8 @@ mod ending;
 
 ghost use Rattle.std.specs.Prelude.{◌≡◌, ◌≢◌, ◌⊎◌, ℕ, List as Seq, Option, Some, None, codes, length};
 ghost use Rattle.std.specs.Prelude.{All, IfErr, IfOk, IfSome, IsOk, OnErr, OnOk, slice_get};
-ghost use Rattle.cm_keep.specs.Asked.{Asks, AsksOneOf, failing, names_at, trying, unmade};
+ghost use Rattle.cm_keep.specs.Asked.{Asks, AsksOneOf, IsGoneOrSaysWhere, failing, names_at, trying};
+ghost use Rattle.cm_keep.specs.Asked.{unmade};
 ghost use Rattle.cm_keep.specs.Asked.{keeping as keeping_calls};
 ghost use Rattle.cm_keep.specs.Files.{IsTried, NeverBegan, SaysWhyUnkept, StandsAt, beside_name};
 ghost use Rattle.cm_keep.specs.Keeping.{kept_text};
@@ -162,6 +163,8 @@ fn keep_journal<F: FilePlace + Drop>(
     ensures failed { IfSome keeping.now (λ k. OnErr result.1
         (AsksOneOf (F.asked files) (F.asked result.0) (failing (names_at k.at number)))) }
     ensures told { IfSome keeping.now (λ k. IfErr result.1 (SaysWhyUnkept k.at)) }
+    ensures left { IfSome keeping.now (λ k. IfErr result.1
+        (IsGoneOrSaysWhere (F.asked files) (F.asked result.0) (names_at k.at number))) }
 {
     match keeping {
         Some(keeping) => keep_service(alloc, files, number, keeping, status, book),
