@@ -1,6 +1,6 @@
 //! JSON values that borrow their texts.
 
-ghost use Rattle.std.specs.Prelude.{◌≡◌, length, option_map, IfOk};
+ghost use Rattle.std.specs.Prelude.{◌≡◌, option_map, IfOk};
 ghost use Rattle.std.specs.Str.{bytes_eq};
 ghost use Rattle.serde_json.specs.Find.{get as member_of, get_member, as_str, as_array, as_object};
 ghost use Rattle.serde_json.specs.View as json;
@@ -26,28 +26,13 @@ pub enum JsonTree<'a> {
     Object(Vec<(&'a str, JsonTree<'a>)>),
 }
 
-/// Whether two lists of bytes of one length are the same. Keys are short, so one byte is compared after the
-/// other.
-#[inline(always)]
-fn same_bytes(bytes: &[u8], others: &[u8]) -> bool
-    requires { length bytes.now ≡ length others.now }
-    ensures { result ≡ bytes_eq bytes.now others.now }
-{
-    for i in 0..bytes.len() {
-        if bytes[i] != others[i] {
-            return false;
-        }
-    }
-    true
-}
-
 /// Whether two texts are the same. Keys that are compared mostly differ in length, which is seen here, where
 /// the function is called: `==` alone is a call for each pair.
 #[inline(always)]
 pub fn same_text(text: &str, other: &str) -> bool
     ensures { result ≡ bytes_eq text.now other.now }
 {
-    text.len() == other.len() && same_bytes(text.as_bytes(), other.as_bytes())
+    text.len() == other.len() && text == other
 }
 
 /// The value of the member, if it has this key, and else what was found before it.
