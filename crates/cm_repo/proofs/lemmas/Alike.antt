@@ -1,8 +1,7 @@
 -- The text of a URL is told by another one, where both are a prefix and a fragment of which nothing is escaped.
-use Rattle.std.proofs.Common.{◌≡◌, ℕ, zero, suc, ◌+◌, ◌-◌, ◌<◌, List, [], ◌∷◌, ◌++◌, length, take, drop, get_or, Bool, true, false, not, ◌&&◌, ◌||◌, ◌==◌, Option, Some, None, Ok, Err, All}
-use Rattle.std.proofs.Common.{refl, sym, ap, ap₂, ◌∙◌, subst, arith, rules, if◌then◌else◌, true≢false}
+use Rattle.std.proofs.Common.{◌≡◌, ℕ, zero, suc, ◌+◌, ◌-◌, ◌<◌, List, [], ◌∷◌, ◌++◌, length, take, drop, get_or, Bool, true, false, ◌&&◌, Option, Some, None, Ok, Err, All}
+use Rattle.std.proofs.Common.{refl, sym, ap, ap₂, ◌∙◌, subst, arith, rules, if◌then◌else◌}
 use Rattle.std.specs.List.{list_all}
-use Rattle.std.specs.Prelude.{Result, unwrap_or}
 use Rattle.std.proofs.lemmas.Bool.{and_parts, agree_below, agree_below_at}
 use Rattle.std.proofs.lemmas.List.{append_cancel_right, append-nil, take-append-drop, take_rest}
 use Rattle.std.proofs.lemmas.List.Elements.{All-nil, All-cons}
@@ -18,7 +17,6 @@ use Rattle.url.proofs.RoundTrip.{fragment_text}
 use Rattle.cm_names.specs.Urls.{is_url_byte, is_url_text}
 use Rattle.cm_names.specs.Steps.{◌>>=◌}
 use Rattle.cm_repo.specs.Urls.{accepted, has_fragment, text_of, key_of}
-use Rattle.cm_repo.specs.declared.fault.UrlFault.{UrlFault}
 use Rattle.cm_repo.specs.declared.fault.UrlFault.TheVariants.{BadUrl, NoFragment}
 use Rattle.cm_repo.specs.UrlsInside.{in_prefix, is_unescaped, IsPlainPrefix, HasPlainFragment}
 use Rattle.cm_repo.proofs.lemmas.Url.{parsed_by_prefix, whole_of, bytes_of, all_rest}
