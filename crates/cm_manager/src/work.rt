@@ -6,6 +6,7 @@
 //! or a stop takes no memory is this project's own choice.
 
 ghost use Rattle.std.specs.Prelude.{◌≡◌, Ok, Err, None, IfOk};
+ghost use Rattle.std.specs.Option.{option_copied};
 ghost use Rattle.cm_decl.specs.Valid.{IsValid};
 ghost use Rattle.cm_repo.specs.Blocks.{block_at};
 ghost use Rattle.cm_repo.specs.Urls.{absolute_of};
@@ -22,7 +23,7 @@ use cm_decl::Decl;
 use cm_gate::{Fetch, Fetched, Gates, Halted, Job, Launched};
 use cm_names::{List, Memory, Text};
 use cm_read::{ReadFault, read_decl};
-use cm_repo::UrlFault;
+use cm_repo::{ResolvedUrl, UrlFault};
 use cm_steps::Ending;
 use cm_table::Prepared;
 use cm_turn::Pass;
@@ -219,9 +220,9 @@ impl Manager {
     {
         match self
             .repository
-            .absolute(work.base.as_str(), work.url.as_str())
+            .resolve(work.base.as_str(), work.url.as_str())
         {
-            Ok(url) => self.find_manifest(rt, alloc, gates, last, idle, url),
+            Ok(resolved) => self.find_manifest(rt, alloc, gates, last, idle, resolved),
             Err(fault) => match fault {
                 UrlFault::Memory => Ending::Other(Outcome::NoMemory),
                 _ => Ending::Other(Outcome::BadUrl),
@@ -229,7 +230,7 @@ impl Manager {
         }
     }
 
-    /// The end of a resolve by the manifest of this URL.
+    /// The end of a resolve by the manifest of a URL, which the gates fetch where no block has it.
     fn find_manifest<'a, R: Threads + Wait + Sync, G: Gates>(
         &'a self,
         rt: &R,
@@ -237,14 +238,16 @@ impl Manager {
         gates: &mut G,
         last: &mut Option<Judged<'a>>,
         idle: &Pass<Entry, Frame>,
-        url: Text,
+        resolved: ResolvedUrl<'a>,
     ) -> Ending
-        ensures did { (w : TheWork) → absolute_of w.base w.url ≡ Ok url
+        requires { option_copied resolved.bytes ≡ block_at self.now.manifests.blocks resolved.url }
+        ensures did { (w : TheWork) → absolute_of w.base w.url ≡ Ok resolved.url
             → DidWith G.log G.faults self.now.manifests w ActKind.Resolve (finish_of result)
             gates.old gates.new }
         ensures fits { FitsAction ActKind.Resolve (finish_of result) }
     {
-        match self.repository.find(url.as_str()) {
+        let ResolvedUrl { url, bytes } = resolved;
+        match bytes {
             Some(bytes) => ending_by(alloc, last, url, bytes.as_slice()),
             None => self.fetch_manifest(rt, alloc, gates, idle, url),
         }

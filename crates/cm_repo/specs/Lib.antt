@@ -1,5 +1,6 @@
 pub mod Answers
 pub mod Blocks
 pub mod BlocksInside
+pub mod Resolved
 pub mod Urls
 pub mod UrlsInside

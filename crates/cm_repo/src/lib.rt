@@ -14,5 +14,5 @@ mod repository;
 mod urls;
 
 pub use fault::{RepoFault, UrlFault};
-pub use repository::Repository;
+pub use repository::{Repository, ResolvedUrl};
 pub use urls::absolute;

@@ -1,6 +1,7 @@
 //! Manifests by URL.
 
-ghost use Rattle.std.specs.Prelude.{◌≡◌, [], Ok, OnOk, OnErr, IfOk, IfErr, IsTrue, string_bytes};
+ghost use Rattle.std.specs.Prelude.{◌≡◌, [], Some, Ok, OnOk, OnErr, IfOk, IfErr, IfSome, IsTrue};
+ghost use Rattle.std.specs.Prelude.{string_bytes};
 ghost use Rattle.std.specs.Option.{option_copied};
 ghost use Rattle.cm_repo.specs.Answers.{IsRepoRefusal, GivesUnless};
 ghost use Rattle.cm_repo.specs.Blocks.{added, block_at};
@@ -24,6 +25,15 @@ pub(crate) struct KeptBlock {
     pub bytes: Bytes,
     /// Whether the block came under the very text that is its key.
     pub verbatim: bool,
+}
+
+/// The text of an absolute URL, and the bytes that stand under it.
+#[derive(Drop)]
+pub struct ResolvedUrl<'a> {
+    /// The URL's text, which names the manifest.
+    pub url: Text,
+    /// The bytes of the block that has this key. `None` where there is none.
+    pub bytes: Option<&'a Bytes>,
 }
 
 /// The bytes of manifests by the text of their URLs, in the order in which they came.
@@ -68,14 +78,18 @@ impl Repository {
         }
     }
 
-    /// Whether a block came under this very text, which is its key then.
-    pub(crate) fn has_verbatim(&self, url: &str) -> bool
-        ensures { IsTrue result → key_of url.now ≡ Ok url.now }
+    /// The bytes of the block that came under this very text, which is its key then.
+    pub(crate) fn find_verbatim(&self, url: &str) -> Option<&Bytes>
+        ensures key { IfSome result (λ bytes. key_of url.now ≡ Ok url.now) }
+        ensures found { IfSome result (λ bytes. block_at self.now url.now ≡ Some bytes.now) }
     {
-        match self.blocks.get(url) {
-            Some(block) => block.verbatim,
-            None => false,
+        let Some(block) = self.blocks.get(url) else {
+            return None;
+        };
+        if !block.verbatim {
+            return None;
         }
+        Some(&block.bytes)
     }
 
     /// Whether the last block tells that the text of this URL is this very one.

@@ -1,15 +1,16 @@
 //! Absolute URLs.
 
-ghost use Rattle.std.specs.Prelude.{◌≡◌, ◌++◌, None, IfSome, IsTrue, length, take_while};
+ghost use Rattle.std.specs.Prelude.{◌≡◌, ◌++◌, None, Ok, IfOk, IfErr, IfSome, IsTrue, length, take_while};
 ghost use Rattle.url.specs.Parser.{Parsed};
 ghost use Rattle.url.specs.Parser as url;
 ghost use Rattle.url.specs.Parts.{Parts};
-ghost use Rattle.cm_repo.specs.Answers.{GivesUnless};
+ghost use Rattle.cm_repo.specs.Answers.{GivesUnless, IsRepoRefusal};
+ghost use Rattle.cm_repo.specs.Resolved.{IsResolvedUrl};
 ghost use Rattle.cm_repo.specs.Urls.{accepted, text_of, key_of, begins_with_hash, joined_to, absolute_of};
 ghost use Rattle.cm_repo.specs.UrlsInside as inside;
 ghost use Rattle.cm_repo.specs.declared.fault.UrlFault.TheVariants.{Memory};
 
-use crate::{Repository, UrlFault};
+use crate::{Repository, ResolvedUrl, UrlFault};
 use cm_names::Text;
 use cm_names::url::is_url_text;
 use std::alloc::Global;
@@ -135,47 +136,76 @@ pub fn absolute(alloc: Global, base: &str, url: &str) -> Result<Text, UrlFault>
 }
 
 impl Repository {
-    /// The text of the URL that stands alone. One under which a block came is its own text, and isn't parsed.
-    fn key(&self, url: Text) -> Result<Text, UrlFault>
-        ensures { GivesUnless Memory result (key_of url) }
+    /// The URL of this text, which is a key, with the bytes under it.
+    fn resolved(&self, url: Text) -> ResolvedUrl<'_>
+        ensures { IsResolvedUrl self.now (Ok url) result }
     {
-        if self.has_verbatim(url.as_str()) {
-            return Ok(url);
-        }
-        key(self.alloc, url.as_str())
+        let bytes = self.find(url.as_str());
+        ResolvedUrl { url, bytes }
     }
 
-    /// The text of the URL with this prefix and this fragment.
-    fn with_fragment(&self, prefix: &str, url: &str) -> Result<Text, UrlFault>
-        ensures { GivesUnless Memory result (key_of (prefix.now ++ url.now)) }
+    /// The URL that stands alone, with the bytes under it. One under which a block came is its own text, and
+    /// isn't parsed.
+    fn resolve_alone(&self, url: Text) -> Result<ResolvedUrl<'_>, UrlFault>
+        ensures ok { IfOk result (IsResolvedUrl self.now (key_of url)) }
+        ensures err { IfErr result (λ fault. IsRepoRefusal Memory fault (key_of url)) }
+    {
+        if let Some(bytes) = self.find_verbatim(url.as_str()) {
+            return Ok(ResolvedUrl {
+                url,
+                bytes: Some(bytes),
+            });
+        }
+        let url = key(self.alloc, url.as_str())?;
+        Ok(self.resolved(url))
+    }
+
+    /// The URL with this prefix and this fragment, with the bytes under it.
+    fn resolve_with_fragment(&self, prefix: &str, url: &str) -> Result<ResolvedUrl<'_>, UrlFault>
+        ensures ok { IfOk result (IsResolvedUrl self.now (key_of (prefix.now ++ url.now))) }
+        ensures err { IfErr result (λ fault. IsRepoRefusal Memory fault (key_of (prefix.now ++ url.now))) }
     {
         let mut text = Text::from_str(self.alloc, prefix)?;
         text.push_str(url)?;
-        self.key(text)
+        self.resolve_alone(text)
     }
 
-    /// The text of a fragment that is joined to a base: mostly the base has no query, and is taken with this
-    /// fragment in the place of its own.
-    #[tactic(auto, using(crate::proofs::lemmas::Url::by_prefix))]
-    fn joined(&self, base: &str, url: &str) -> Result<Text, UrlFault>
+    /// The URL that a fragment is on a base, with the bytes under it: mostly the base has no query, and is
+    /// taken with this fragment in the place of its own.
+    #[tactic(auto, using(crate::proofs::lemmas::Url::joined_is_key))]
+    fn resolve_joined(&self, base: &str, url: &str) -> Result<ResolvedUrl<'_>, UrlFault>
         requires { IsTrue (begins_with_hash url.now) }
-        ensures { GivesUnless Memory result (joined_to base.now url.now) }
+        ensures ok { IfOk result (IsResolvedUrl self.now (joined_to base.now url.now)) }
+        ensures err { IfErr result (λ fault. IsRepoRefusal Memory fault (joined_to base.now url.now)) }
     {
         match plain_prefix(base, url) {
-            Some(prefix) => self.with_fragment(prefix, url),
-            None => joined_to(self.alloc, base, url),
+            Some(prefix) => self.resolve_with_fragment(prefix, url),
+            None => {
+                let url = joined_to(self.alloc, base, url)?;
+                Ok(self.resolved(url))
+            }
         }
     }
 
-    /// The text of the absolute URL that `url` is on `base`, as [`absolute`] gives it. A URL under which a
-    /// block came isn't parsed again.
+    /// The absolute URL that `url` is on `base`, as [`absolute`] gives its text, with the bytes that stand
+    /// under it: all that a resolve looks up. A URL under which a block came isn't parsed again. The faults
+    /// are those of [`absolute`].
     #[tactic(auto, unfolding(crate::specs::Urls::absolute_of))]
+    pub fn resolve(&self, base: &str, url: &str) -> Result<ResolvedUrl<'_>, UrlFault>
+        ensures ok { IfOk result (IsResolvedUrl self.now (absolute_of base.now url.now)) }
+        ensures err { IfErr result (λ fault. IsRepoRefusal Memory fault (absolute_of base.now url.now)) }
+    {
+        if !begins_with_hash(url) {
+            return self.resolve_alone(Text::from_str(self.alloc, url)?);
+        }
+        self.resolve_joined(base, url)
+    }
+
+    /// The text of the absolute URL that `url` is on `base`, as [`absolute`] gives it.
     pub fn absolute(&self, base: &str, url: &str) -> Result<Text, UrlFault>
         ensures { GivesUnless Memory result (absolute_of base.now url.now) }
     {
-        if !begins_with_hash(url) {
-            return self.key(Text::from_str(self.alloc, url)?);
-        }
-        self.joined(base, url)
+        let found = self.resolve(base, url)?;
+        Ok(found.url)
     }
 }

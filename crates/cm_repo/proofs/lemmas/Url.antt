@@ -2,7 +2,7 @@
 use Rattle.std.proofs.Common.{◌≡◌, ℕ, zero, suc, ◌-◌, ◌<◌, List, [], ◌∷◌, ◌++◌, length, take, drop, get_or}
 use Rattle.std.proofs.Common.{Bool, true, false, not, cond, ◌&&◌, ◌==◌, Option, Some, None, Ok, Err, take_while}
 use Rattle.std.proofs.Common.{refl, sym, ap, ap₂, ◌∙◌, subst, arith, rules, take_all}
-use Rattle.std.specs.Prelude.{reverse, Result, nat_le}
+use Rattle.std.specs.Prelude.{reverse, nat_le}
 use Rattle.std.specs.List.{list_all, prefix_len}
 use Rattle.std.specs.Str.{IsCharBoundary}
 use Rattle.std.proofs.lemmas.Bool.{and_parts, or_parts, not-true, eqb-true, cond-false, lt-leb}
@@ -20,9 +20,6 @@ use Rattle.cm_names.specs.Urls.{is_url_byte, is_url_text}
 use Rattle.cm_names.specs.Steps.{◌>>=◌}
 use Rattle.cm_facts.proofs.Booleans.{and_false}
 use Rattle.cm_repo.specs.Urls.{accepted, url_on, text_of, key_of, begins_with_hash, joined_to}
-use Rattle.cm_repo.specs.Answers.{GivesUnless}
-use Rattle.cm_repo.specs.declared.fault.UrlFault.{UrlFault}
-use Rattle.cm_repo.specs.declared.fault.UrlFault.TheVariants.{Memory}
 use Rattle.cm_repo.specs.UrlsInside.{in_prefix, IsUrlPrefix, IsPlainPrefix}
 
 -- ---- the prefix
@@ -235,13 +232,6 @@ joined_is_key prefix base url is h =
     ∙ by_scheme (split_scheme prefix) prefix old ys urls
     ∙ ap (λ p. accepted p >>= text_of) (sym (parsed_by_prefix None prefix ys whole is.parted.plain))
     ∙ ap (λ u. key_of (prefix ++ u)) (sym first)
-
--- A result that is right for prefix and fragment, unless memory ran out, is so for the joined URL.
-pub by_prefix : (result : Result (List ℕ) UrlFault) (prefix base url : List ℕ) → IsPlainPrefix prefix base url
-    → begins_with_hash url ≡ true → GivesUnless Memory result (key_of (prefix ++ url))
-    → GivesUnless Memory result (joined_to base url)
-by_prefix result prefix base url is h gives =
-    subst (GivesUnless Memory result) (sym (joined_is_key prefix base url is h)) gives
 
 -- The prefix of a base is a plain one, where both the base and the other text may be URLs.
 pub plain : (prefix base url : List ℕ) → IsUrlPrefix prefix base → is_url_text base ≡ true → is_url_text url ≡ true
