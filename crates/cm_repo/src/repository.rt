@@ -27,6 +27,15 @@ pub(crate) struct KeptBlock {
     pub verbatim: bool,
 }
 
+/// The key of a block.
+#[derive(Drop)]
+struct BlockKey {
+    /// The text of the block's URL.
+    text: Text,
+    /// Whether the block came under this very text.
+    verbatim: bool,
+}
+
 /// The text of an absolute URL, and the bytes that stand under it.
 #[derive(Drop)]
 pub struct ResolvedUrl<'a> {
@@ -102,14 +111,22 @@ impl Repository {
         }
     }
 
-    /// The text of the URL of a block, which mostly is told by the block before.
-    fn key_of_block(&self, url: &str) -> Result<Text, UrlFault>
-        ensures { GivesUnless url_fault.Memory result (key_of url.now) }
+    /// The key of a block of this URL, which mostly is told by the block before.
+    fn key_of_block(&self, url: &str) -> Result<BlockKey, UrlFault>
+        ensures ok { IfOk result (λ key. key_of url.now ≡ Ok key.text) }
+        ensures own { IfOk result (λ key. IsTrue key.verbatim → key_of key.text ≡ Ok key.text) }
+        ensures err { IfErr result (λ fault. IsRepoRefusal url_fault.Memory fault (key_of url.now)) }
     {
         if self.tells(url) {
-            return Ok(Text::from_str(self.alloc, url)?);
+            let text = Text::from_str(self.alloc, url)?;
+            return Ok(BlockKey {
+                text,
+                verbatim: true,
+            });
         }
-        key(self.alloc, url)
+        let text = key(self.alloc, url)?;
+        let verbatim = is_same(text.as_str(), url);
+        Ok(BlockKey { text, verbatim })
     }
 
     /// Puts a block last, under the text of its URL as the URL Standard writes it.
@@ -130,12 +147,11 @@ impl Repository {
             IsRepoRefusal Memory fault (added self.old url.now bytes)) }
         ensures unchanged { OnErr result (self.new ≡ self.old) }
     {
-        let key = self.key_of_block(url)?;
-        if self.blocks.contains_key(key.as_str()) {
+        let BlockKey { text, verbatim } = self.key_of_block(url)?;
+        if self.blocks.contains_key(text.as_str()) {
             return Err(RepoFault::Repeated);
         }
-        let verbatim = is_same(key.as_str(), url);
-        let text = string_of(key)?;
+        let text = string_of(text)?;
         self.blocks.insert(text, KeptBlock { bytes, verbatim })?;
         Ok(())
     }
