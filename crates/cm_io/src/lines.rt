@@ -1,5 +1,6 @@
 //! Lines out of a source.
 
+ghost use Rattle.cm_io.specs.Counts.{one_more};
 ghost use Rattle.cm_io.specs.Lines.{Moves};
 ghost use Rattle.cm_io.specs.LinesInside.{EndsOnce, Fills, GaveBytes, LineGrows, TakesLine};
 ghost use Rattle.cm_io.specs.LinesInside.{TakesPart, TellsLine};
@@ -116,6 +117,7 @@ impl LineReader {
         ensures beside { S.beside source.new ≡ S.beside source.old }
         ensures later { S.faults source.old ≤ S.faults source.new }
         ensures fault { result ≡ Next.ReadFault → Rose (S.faults source.old) (S.faults source.new) }
+        ensures once { result ≡ Next.ReadFault → S.faults source.new ≡ one_more (S.faults source.old) }
         ensures told_fault { result ≢ Next.ReadFault → S.faults source.new ≡ S.faults source.old }
         ensures quiet { S.quiet source.old →
             S.quiet source.new × (S.faults source.new ≡ S.faults source.old) }
