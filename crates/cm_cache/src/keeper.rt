@@ -1,6 +1,6 @@
 //! Answers kept beside a history.
 
-ghost use Rattle.std.specs.Prelude.{◌≡◌, ◌+◌, ◌<◌, ◌^◌, ℕ, IfOk, OnOk, OnErr, IsTrue};
+ghost use Rattle.std.specs.Prelude.{◌≡◌, ◌+◌, ◌<◌, ◌^◌, ℕ, IfOk, OnOk, OnErr, IsSome, IsTrue};
 ghost use Rattle.cm_world.specs.declared.action.Finish.{Finish};
 ghost use Rattle.cm_cache.specs.AnswersInside.{kept_at};
 ghost use Rattle.cm_cache.specs.Beside.{nothing_held, found_by, is_new, is_emptied, followed, finding};
@@ -29,9 +29,10 @@ pub enum CacheLookup {
 
 /// What becomes of the answers with an entry that asks for a use of which none is kept, and whose
 /// walk comes to this: a copy of it is kept, unless it waits for a declaration or is a route of
-/// more than 64 hops. `Err` where memory runs out.
+/// more than 64 hops. `Err` where memory runs out for the copy.
 pub fn found_by_walk(inc: u64, path: &CapPath, walked: &Walked) -> Result<CacheLookup, Memory>
-    ensures { IfOk result (λ found. found ≡ finding inc path.now walked.now) }
+    ensures found { IfOk result (λ found. found ≡ finding inc path.now walked.now) }
+    ensures lasting { OnErr result (IsTrue (keeping.is_lasting walked.now)) }
 {
     if !lasts(walked) {
         return Ok(CacheLookup::Passing);
@@ -89,9 +90,10 @@ impl Keeper {
     }
 
     /// A copy of the answer that is kept for this use of an instance, or `None`. `Err` where memory
-    /// runs out.
+    /// runs out for the copy of one that is kept.
     pub fn recall(&self, inc: u64, path: &CapPath) -> Result<Option<Walked>, Memory>
-        ensures { IfOk result (λ found. found ≡ kept_at self.now.answers inc path.now) }
+        ensures found { IfOk result (λ found. found ≡ kept_at self.now.answers inc path.now) }
+        ensures kept { OnErr result (IsSome (kept_at self.now.answers inc path.now)) }
     {
         match self.store.cache.get(inc, path) {
             None => Ok(None),
