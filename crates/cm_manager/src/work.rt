@@ -4,6 +4,8 @@
 //! a start and a stop ask the runner, as `fuchsia.component.runner.ComponentRunner` is asked
 //! (fuchsia.dev). An instance without a program starts and stops without a question. That a start
 //! or a stop takes no memory is this project's own choice.
+//!
+//! What stands in each caller's way is inlined, so that a work and its ending move once.
 
 ghost use Rattle.std.specs.Prelude.{◌≡◌, Ok, Err, None, IfOk};
 ghost use Rattle.std.specs.Option.{option_copied};
@@ -87,6 +89,7 @@ pub(crate) fn judge(alloc: Global, bytes: &[u8]) -> Result<Decl, Outcome>
 }
 
 /// The end of a resolve by the bytes of its manifest, which may be the one that was judged last.
+#[inline(always)]
 fn ending_by<'a>(alloc: Global, last: &mut Option<Judged<'a>>, url: Text, bytes: &'a [u8]) -> Ending
     ensures ends { EndsBy url bytes.now (finish_of result) }
     ensures fits { FitsAction ActKind.Resolve (finish_of result) }
@@ -123,6 +126,7 @@ fn halted(answer: Halted) -> Outcome
 
 /// What the gates are asked for a start or a stop, unless the instance has no program, and its eager
 /// children.
+#[inline(always)]
 fn job_for(work: Work) -> (Option<Job>, List<u64>)
     ensures job { HasJob work result.0 }
     ensures eager { result.1 ≡ work.eager }
@@ -157,6 +161,7 @@ fn job_for(work: Work) -> (Option<Job>, List<u64>)
 }
 
 /// The work of a start. It gives the instance's eager children back.
+#[inline(always)]
 fn launch<R: Threads + Wait + Sync, G: Gates>(
     rt: &R,
     gates: &mut G,
@@ -181,6 +186,7 @@ fn launch<R: Threads + Wait + Sync, G: Gates>(
 
 /// Does the work of a stop: has the gates halt the instance's program, and answers how that ended. An
 /// instance without a program has stopped at once.
+#[inline(always)]
 fn halt<R: Threads + Wait + Sync, G: Gates>(
     rt: &R,
     gates: &mut G,
@@ -205,6 +211,7 @@ fn halt<R: Threads + Wait + Sync, G: Gates>(
 
 impl Manager {
     /// The work of a resolve, of which the base and the URL of the component are used.
+    #[inline(always)]
     fn do_resolve<'a, R: Threads + Wait + Sync, G: Gates>(
         &'a self,
         rt: &R,
@@ -231,6 +238,7 @@ impl Manager {
     }
 
     /// The end of a resolve by the manifest of a URL, which the gates fetch where no block has it.
+    #[inline(always)]
     fn find_manifest<'a, R: Threads + Wait + Sync, G: Gates>(
         &'a self,
         rt: &R,
@@ -293,6 +301,7 @@ impl Manager {
 
     /// Does the work of an action, with the pass of its caller idle. For a start it gives the
     /// instance's eager children back.
+    #[inline(always)]
     pub(crate) fn do_work<'a, R: Threads + Wait + Sync, G: Gates>(
         &'a self,
         rt: &R,
