@@ -6,6 +6,7 @@ use Rattle.cm_keep.specs.Files.{SaysWhere, beside_name}
 use Rattle.cm_keep.specs.declared.place.PlaceCall.{PlaceCall}
 use Rattle.cm_keep.specs.declared.place.PlaceCall.TheVariants as call
 use Rattle.cm_keep.specs.declared.service.Unkept.{Unkept}
+use Rattle.cm_keep.specs.declared.service.Unkept.TheVariants as unkept
 
 -- ---- logs
 
@@ -56,33 +57,56 @@ letting_go n = giving_up n ∷ failed_sync n ∷ []
 
 -- ---- all calls of a service
 
--- no new file is made: none is asked for, or it can't be made
+-- a new file is made, for a place that may have one
+abbrev pub making : FileNames → List PlaceCall
+making n = call.Check n.place true ∷ call.Create n.beside true ∷ []
+
+-- a new file is refused: its place can't have one, or it can't be made
+abbrev pub refusing : FileNames → List (List PlaceCall)
+refusing n =
+    (call.Check n.place false ∷ [])
+    ∷ (call.Check n.place true ∷ call.Create n.beside false ∷ [])
+    ∷ []
+
+-- no new file is made: it isn't asked for, or refused
 abbrev pub unmade : FileNames → List (List PlaceCall)
-unmade n = [] ∷ (call.Create n.beside false ∷ []) ∷ []
+unmade n = (call.Check n.place true ∷ []) ∷ refusing n
 
 -- a new file is made, and is taken away again
 abbrev pub trying : FileNames → List PlaceCall
-trying n = call.Create n.beside true ∷ call.Remove n.beside ∷ []
+trying n = making n ++ giving_up n
 
 -- a journal is kept: a new file is made beside its place, reaches the disk and is renamed to the place
 abbrev pub keeping : FileNames → List PlaceCall
-keeping n = call.Create n.beside true ∷ call.Sync true ∷ call.Rename n.beside n.place true ∷ []
+keeping n = making n ++ placing n
+
+-- a new file is made, and given up before or behind its way to the disk
+abbrev pub making_and_letting_go : FileNames → List (List PlaceCall)
+making_and_letting_go n = (making n ++ giving_up n) ∷ (making n ++ failed_sync n) ∷ []
 
 -- a journal isn't kept, and nothing of it is left: no new file is made; or one is, and is given up before
 -- or behind its way to the disk
 abbrev pub leaving_nothing : FileNames → List (List PlaceCall)
-leaving_nothing n =
-    []
-    ∷ (call.Create n.beside false ∷ [])
-    ∷ (call.Create n.beside true ∷ call.Remove n.beside ∷ [])
-    ∷ (call.Create n.beside true ∷ call.Sync false ∷ call.Remove n.beside ∷ [])
-    ∷ []
+leaving_nothing n = unmade n ++ making_and_letting_go n
+
+-- the renaming fails, which comes last, and all of a journal is left
+abbrev pub failing_last : FileNames → List PlaceCall
+failing_last n = making n ++ (call.Sync true ∷ call.Rename n.beside n.place false ∷ [])
 
 -- a journal isn't kept: nothing of it is left; or the renaming fails, which comes last, and all of it is
 abbrev pub failing : FileNames → List (List PlaceCall)
-failing n =
-    leaving_nothing n
-    ++ (call.Create n.beside true ∷ call.Sync true ∷ call.Rename n.beside n.place false ∷ []) ∷ []
+failing n = leaving_nothing n ++ failing_last n ∷ []
+
+-- the same, but no file is made only where one is refused
+abbrev pub faulting : FileNames → List (List PlaceCall)
+faulting n = refusing n ++ (making_and_letting_go n ++ failing_last n ∷ [])
+
+-- why a journal isn't kept: memory ran out; or what a line says, and then the place of files was asked the
+-- calls of one of these lists
+abbrev pub WasRefused : Option (List PlaceCall) → Option (List PlaceCall) → List (List PlaceCall) → Unkept
+    → Type 0
+WasRefused old new calls unkept.Memory = Unit {0}
+WasRefused old new calls (unkept.Said line) = AsksOneOf old new calls
 
 -- of a journal that isn't kept nothing is left, by what the place of files was asked; or why it isn't kept
 -- says where it stands

@@ -7,6 +7,10 @@ use Rattle.cm_reply.specs.Lists.{TextBytes}
 use Rattle.cm_keep.specs.declared.service.Unkept.{Unkept}
 use Rattle.cm_keep.specs.declared.service.Unkept.TheVariants as unkept
 
+-- a file may have this name, as far as the name tells: it isn't empty, and doesn't end in a slash
+abbrev pub MayNameFile : TextBytes → Type 0
+MayNameFile name = (name ≢ []) × ((folder : TextBytes) → name ≢ folder ++ codes "/")
+
 -- the name of the new file of a journal: its place, the number of the process and `.new`, with dots between
 abbrev pub beside_name : TextBytes → ℕ → TextBytes
 beside_name place number = place ++ (codes "." ++ (decimal number ++ codes ".new"))

@@ -1,8 +1,9 @@
 //! A keeper that writes a file.
 
-ghost use Rattle.std.specs.Prelude.{◌≡◌, ◌++◌, false, true, [], ◌∷◌, codes, IfErr, IfOk, Some};
+ghost use Rattle.std.specs.Prelude.{◌≡◌, ◌⊎◌, ◌++◌, false, true, [], ◌∷◌, codes, IfErr, IfOk, OnOk, Some};
+ghost use Rattle.std.specs.IoError.{error_kind};
 ghost use Rattle.cm_io.specs.Counts.{one_more};
-ghost use Rattle.cm_keep.specs.Asked.{Asks, AsksOneOf, names_at, unmade};
+ghost use Rattle.cm_keep.specs.Asked.{Asks, AsksOneOf, making, names_at, refusing, unmade};
 ghost use Rattle.cm_keep.specs.Files.{IsFaultLine, TellsWhere, beside_name};
 ghost use Rattle.cm_keep.specs.declared.place.PlaceCall.TheVariants as call;
 
@@ -33,7 +34,7 @@ impl<F: FilePlace + Drop> FileKeeper<F> {
     /// A keeper for this path, whose new file is there and empty. `number` is that of the process.
     ///
     /// `Err` where the path is empty or names a folder or a thing that is no regular file, and where no
-    /// file can be made beside it: then `files` come back.
+    /// file can be made beside it, or memory runs out: then `files` come back.
     pub fn new(
         alloc: Global,
         mut files: F,
@@ -46,9 +47,12 @@ impl<F: FilePlace + Drop> FileKeeper<F> {
         ensures place { IfOk result (λ keeper. keeper.place ≡ place.now) }
         ensures beside { IfOk result (λ keeper. keeper.beside ≡ beside_name place.now number) }
         ensures asked { IfOk result (λ keeper. Asks (F.asked files) (F.asked keeper.files)
-            (call.Create (beside_name place.now number) true ∷ [])) }
+            (making (names_at place.now number))) }
+        ensures fits { OnOk result (F.fits place.now) }
         ensures unmade { IfErr result (λ left.
             AsksOneOf (F.asked files) (F.asked left.0) (unmade (names_at place.now number))) }
+        ensures refused { IfErr result (λ left. (error_kind left.1 ≡ ErrorKind.OutOfMemory)
+            ⊎ AsksOneOf (F.asked files) (F.asked left.0) (refusing (names_at place.now number))) }
     {
         if let Err(why) = files.check(place.as_str()) {
             return Err((files, why));

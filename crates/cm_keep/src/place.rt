@@ -12,6 +12,8 @@ use std::{fs, io};
 /// What a place of files was asked, with the names that it was told, and whether that went well.
 #[derive(Debug, Drop)]
 pub enum PlaceCall {
+    /// To look whether a file can get this name.
+    Check(Text, bool),
     /// To make a new file of this name.
     Create(Text, bool),
     /// To have what was written into a file reach the disk.
@@ -36,6 +38,9 @@ pub trait FilePlace {
     /// What it was asked so far, one after the other, where that is told.
     ghost asked: { Self → Option (List PlaceCall) };
 
+    /// A file may get this name, as far as the name tells.
+    ghost fits: { List ℕ → Type 0 };
+
     /// A new file has this name, and nothing was written into it yet.
     ghost created: { List ℕ → Self.Draft → Type 0 };
 
@@ -50,7 +55,10 @@ pub trait FilePlace {
 
     /// Refuses a name that no file can get: an empty one, and that of a folder or of a thing that is no
     /// regular file.
-    fn check(&self, name: &str) -> io::Result<()>;
+    fn check(&mut self, name: &str) -> io::Result<()>
+        ensures fits { IfOk result (λ _. fits name.now) }
+        ensures asked { Asks (asked self.old) (asked self.new)
+            (PlaceCall.Check name.now (is_ok result) ∷ []) };
 
     /// Makes a new file of this name. One that is left there is taken away before.
     fn create(&mut self, name: &str) -> io::Result<Self::Draft>
@@ -77,11 +85,14 @@ pub trait FilePlace {
 
 impl<F: Files> FilePlace for F {
     ghost use Rattle.std.specs.Prelude.{None, ⊤};
+    ghost use Rattle.cm_keep.specs.Files.{MayNameFile};
 
     /// A file of the file system.
     type Draft = F::File;
 
     ghost asked = { λ _. None };
+
+    ghost fits = { MayNameFile };
 
     ghost created = { λ _ _. ⊤ };
 
@@ -92,7 +103,7 @@ impl<F: Files> FilePlace for F {
     ghost unnamed = { λ _. ⊤ };
 
     /// Looks at what stands at the path.
-    fn check(&self, name: &str) -> io::Result<()> {
+    fn check(&mut self, name: &str) -> io::Result<()> {
         if name.is_empty() {
             return Err(Error::new(ErrorKind::InvalidInput, "no file is named"));
         }

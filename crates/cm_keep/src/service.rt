@@ -1,13 +1,12 @@
 //! The journal of a service: where it is to be kept, and its keeping.
 
-ghost use Rattle.std.specs.Prelude.{◌≡◌, ◌⊎◌, true, [], ◌∷◌, IfErr, IfOk, IsOk, MatchResult, OnErr, OnOk};
-ghost use Rattle.cm_keep.specs.Asked.{Asks, AsksOneOf, IsGoneOrSaysWhere, failed_keeping, failing};
-ghost use Rattle.cm_keep.specs.Asked.{keeping as keeping_calls, letting_go, names_at, placing, trying};
-ghost use Rattle.cm_keep.specs.Asked.{unmade};
+ghost use Rattle.std.specs.Prelude.{◌≡◌, ◌⊎◌, IfErr, IfOk, IsOk, MatchResult, OnErr, OnOk};
+ghost use Rattle.cm_keep.specs.Asked.{Asks, AsksOneOf, IsGoneOrSaysWhere, WasRefused, failed_keeping};
+ghost use Rattle.cm_keep.specs.Asked.{failing, faulting, keeping as keeping_calls, letting_go, making};
+ghost use Rattle.cm_keep.specs.Asked.{names_at, placing, refusing, trying, unmade};
 ghost use Rattle.cm_keep.specs.Files.{SaysWhyUnkept, IsTried, NeverBegan, StandsAt, beside_name};
 ghost use Rattle.cm_keep.specs.Keeping.{Caused, IsKept, IsLeft, kept_text};
 ghost use Rattle.cm_keep.specs.Service.{Plans};
-ghost use Rattle.cm_keep.specs.declared.place.PlaceCall.TheVariants as call;
 ghost use Rattle.cm_keep.specs.declared.service.Unkept.TheVariants as unkept;
 
 use crate::{FileKeeper, FilePlace, KeepFault, TextKeeper, fault_line, keep_journal};
@@ -78,10 +77,13 @@ fn keeper_of<F: FilePlace + Drop>(
     ensures place { IfOk result (λ keeper. keeper.place ≡ keeping.now.at) }
     ensures beside { IfOk result (λ keeper. keeper.beside ≡ beside_name keeping.now.at number) }
     ensures asked { IfOk result (λ keeper. Asks (F.asked files) (F.asked keeper.files)
-        (call.Create (beside_name keeping.now.at number) true ∷ [])) }
+        (making (names_at keeping.now.at number))) }
+    ensures fits { OnOk result (F.fits keeping.now.at) }
     ensures unmade { IfErr result (λ left.
         AsksOneOf (F.asked files) (F.asked left.0) (unmade (names_at keeping.now.at number))) }
     ensures told { IfErr result (λ left. SaysWhyUnkept keeping.now.at left.1) }
+    ensures refused { IfErr result (λ left.
+        WasRefused (F.asked files) (F.asked left.0) (refusing (names_at keeping.now.at number)) left.1) }
 {
     match FileKeeper::new(alloc, files, number, &keeping.at) {
         Ok(keeper) => Ok(keeper),
@@ -101,9 +103,12 @@ pub fn try_keeping<F: FilePlace + Drop>(
     ensures tried { OnOk result.1 (IsTried F.created F.unnamed (beside_name keeping.now.at number)) }
     ensures asked { OnOk result.1
         (Asks (F.asked files) (F.asked result.0) (trying (names_at keeping.now.at number))) }
+    ensures fits { OnOk result.1 (F.fits keeping.now.at) }
     ensures unmade { OnErr result.1
         (AsksOneOf (F.asked files) (F.asked result.0) (unmade (names_at keeping.now.at number))) }
     ensures told { IfErr result.1 (SaysWhyUnkept keeping.now.at) }
+    ensures refused { IfErr result.1
+        (WasRefused (F.asked files) (F.asked result.0) (refusing (names_at keeping.now.at number))) }
 {
     let mut keeper = match keeper_of(alloc, files, number, keeping) {
         Ok(keeper) => keeper,
@@ -162,9 +167,12 @@ pub fn keep_service<F: FilePlace + Drop>(
         keeping.now.at (kept_text keeping.now.root book.now.entries)) }
     ensures asked { OnOk result.1 (NeverBegan status book.now.entries
         ⊎ Asks (F.asked files) (F.asked result.0) (keeping_calls (names_at keeping.now.at number))) }
+    ensures fits { OnOk result.1 (NeverBegan status book.now.entries ⊎ F.fits keeping.now.at) }
     ensures failed { OnErr result.1
         (AsksOneOf (F.asked files) (F.asked result.0) (failing (names_at keeping.now.at number))) }
     ensures told { IfErr result.1 (SaysWhyUnkept keeping.now.at) }
+    ensures refused { IfErr result.1
+        (WasRefused (F.asked files) (F.asked result.0) (faulting (names_at keeping.now.at number))) }
     ensures left { IfErr result.1
         (IsGoneOrSaysWhere (F.asked files) (F.asked result.0) (names_at keeping.now.at number)) }
 {

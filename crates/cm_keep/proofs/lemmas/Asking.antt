@@ -3,11 +3,10 @@ use Rattle.cm_keep.specs.declared.service.Unkept.{Unkept}
 use Rattle.cm_keep.specs.declared.service.Unkept.TheVariants as unkept
 use Rattle.cm_keep.specs.Files.{IsFaultLine, SaysWhere, SaysWhyUnkept, TellsWhere}
 use Rattle.std.specs.Prelude.{MatchResult, IfOk, IfErr, Ok}
-use Rattle.std.proofs.Common.{◌≡◌, ◌⊎◌, inl, inr, List, [], ◌∷◌, ◌++◌, true, false, Option, Some, None, Result, Err, OnErr, ap, sym, subst, ◌∙◌, append_assoc}
+use Rattle.std.proofs.Common.{◌≡◌, ◌⊎◌, inl, inr, List, [], ◌∷◌, ◌++◌, Option, Some, None, Result, Err, OnErr, ap, sym, subst, ◌∙◌, append_assoc}
 use Rattle.cm_reply.specs.Lists.{TextBytes}
-use Rattle.cm_keep.specs.Asked.{Asks, AsksOneOf, FileNames, IsGoneOrSaysWhere, failed_keeping, failing, leaving_nothing, letting_go}
+use Rattle.cm_keep.specs.Asked.{Asks, AsksOneOf, FileNames, IsGoneOrSaysWhere, WasRefused, failed_keeping, failing, failing_last, faulting, leaving_nothing, letting_go, making, making_and_letting_go, refusing}
 use Rattle.cm_keep.specs.declared.place.PlaceCall.{PlaceCall}
-use Rattle.cm_keep.specs.declared.place.PlaceCall.TheVariants as call
 
 -- A log that has some calls more, and then more calls, has all of these more.
 pub asks_more : (a b c : Option (List PlaceCall)) (xs ys : List PlaceCall) → Asks a b xs → Asks b c ys → Asks a c (xs ++ ys)
@@ -18,40 +17,58 @@ asks_more (Some x) b c xs ys before behind =
 
 -- A journal isn't kept where its new file is made and the keeping fails behind that.
 failed_of : (n : FileNames) (a b c : Option (List PlaceCall))
-    → Asks a b (call.Create n.beside true ∷ []) → AsksOneOf b c (failed_keeping n) → AsksOneOf a c (failing n)
-failed_of n a b c made (inl given_up) = inr (inr (inl (asks_more a b c _ _ made given_up)))
-failed_of n a b c made (inr (inl unsynced)) = inr (inr (inr (inl (asks_more a b c _ _ made unsynced))))
-failed_of n a b c made (inr (inr (inl unplaced))) =
-    inr (inr (inr (inr (inl (asks_more a b c _ _ made unplaced)))))
+    → Asks a b (making n) → AsksOneOf b c (failed_keeping n) → AsksOneOf a c (making_and_letting_go n ++ failing_last n ∷ [])
+failed_of n a b c made (inl given_up) = inl (asks_more a b c _ _ made given_up)
+failed_of n a b c made (inr (inl unsynced)) = inr (inl (asks_more a b c _ _ made unsynced))
+failed_of n a b c made (inr (inr (inl unplaced))) = inr (inr (inl (asks_more a b c _ _ made unplaced)))
 failed_of n a b c made (inr (inr (inr nothing))) = absurd nothing
 
--- a new file was made, and then a keeper failed that has these names
-pub failed_behind : (beside place : TextBytes) (n : FileNames) (a b c d : Option (List PlaceCall))
-    → Asks a b (call.Create beside true ∷ []) → AsksOneOf b c (failed_keeping n)
-    → n.beside ≡ beside → n.place ≡ place → d ≡ c
-    → AsksOneOf a d (failing (record { beside = beside; place = place }))
-failed_behind beside place n a b c d made failed is_beside is_place same =
-    subst (λ (d : Option (List PlaceCall)). AsksOneOf a d (failing (record { beside = beside; place = place }))) (sym same)
-    (failed_of (record { beside = beside; place = place }) a b c made
-    (subst (λ (x : TextBytes). AsksOneOf b c (failed_keeping (record { beside = beside; place = x }))) is_place
-    (subst (λ (x : TextBytes). AsksOneOf b c (failed_keeping (record { beside = x; place = n.place }))) is_beside failed)))
+-- A new file was made, and then a keeper failed that has these names, for that reason.
+faulted_of : (n m : FileNames) (a b c d : Option (List PlaceCall))
+    → Asks a b (making n) → AsksOneOf b c (failed_keeping m) → m ≡ n → d ≡ c
+    → AsksOneOf a d (making_and_letting_go n ++ failing_last n ∷ [])
+faulted_of n m a b c d made failed names same =
+    subst (λ (x : Option (List PlaceCall)). AsksOneOf a x (making_and_letting_go n ++ failing_last n ∷ [])) (sym same)
+    (failed_of n a b c made (subst (λ (x : FileNames). AsksOneOf b c (failed_keeping x)) names failed))
+
+-- It is one of the ways in which a journal isn't kept.
+pub failed_behind : (n m : FileNames) (a b c d : Option (List PlaceCall))
+    → Asks a b (making n) → AsksOneOf b c (failed_keeping m) → m ≡ n → d ≡ c → AsksOneOf a d (failing n)
+failed_behind n m a b c d made failed names same = inr (inr (inr (faulted_of n m a b c d made failed names same)))
+
+-- What a line says is why, where the place of files was asked so.
+pub was_refused : (a d : Option (List PlaceCall)) (calls : List (List PlaceCall)) (u : Unkept) → AsksOneOf a d calls → WasRefused a d calls u
+was_refused a d calls unkept.Memory asked = tt
+was_refused a d calls (unkept.Said line) asked = asked
+
+-- A new file was made, and then a keeper failed: a line may say why.
+pub refused_behind : (n m : FileNames) (a b c d : Option (List PlaceCall)) (u : Unkept)
+    → Asks a b (making n) → AsksOneOf b c (failed_keeping m) → m ≡ n → d ≡ c → WasRefused a d (faulting n) u
+refused_behind n m a b c d u made failed names same =
+    was_refused a d (faulting n) u (inr (inr (faulted_of n m a b c d made failed names same)))
+
+-- Where no new file is made, a journal isn't kept, for the same reason.
+pub unmade_refused : (n : FileNames) (a d : Option (List PlaceCall)) (u : Unkept) → WasRefused a d (refusing n) u → WasRefused a d (faulting n) u
+unmade_refused n a d unkept.Memory refused = tt
+unmade_refused n a d (unkept.Said line) (inl unfit) = inl unfit
+unmade_refused n a d (unkept.Said line) (inr (inl uncreated)) = inr (inl uncreated)
+unmade_refused n a d (unkept.Said line) (inr (inr nothing)) = absurd nothing
 
 -- Nothing of a journal is left where its new file is made and the keeping fails behind that and lets go.
 gone_of : (n : FileNames) (a b c : Option (List PlaceCall))
-    → Asks a b (call.Create n.beside true ∷ []) → AsksOneOf b c (letting_go n) → AsksOneOf a c (leaving_nothing n)
-gone_of n a b c made (inl given_up) = inr (inr (inl (asks_more a b c _ _ made given_up)))
-gone_of n a b c made (inr (inl unsynced)) = inr (inr (inr (inl (asks_more a b c _ _ made unsynced))))
+    → Asks a b (making n) → AsksOneOf b c (letting_go n) → AsksOneOf a c (leaving_nothing n)
+gone_of n a b c made (inl given_up) = inr (inr (inr (inl (asks_more a b c _ _ made given_up))))
+gone_of n a b c made (inr (inl unsynced)) = inr (inr (inr (inr (inl (asks_more a b c _ _ made unsynced)))))
 gone_of n a b c made (inr (inr nothing)) = absurd nothing
 
 -- A new file was made, and then a keeper failed that has these names: it let go, or has all of it, and says where.
-pub gone_behind : {W : Type 0} (beside place : TextBytes) (n : FileNames) (a b c d : Option (List PlaceCall)) (u : Unkept)
-    → Asks a b (call.Create beside true ∷ []) → W ⊎ AsksOneOf b c (letting_go n) → n ≡ record { beside = beside; place = place } → d ≡ c
-    → (W → SaysWhere place beside u) → IsGoneOrSaysWhere a d (record { beside = beside; place = place }) u
-gone_behind beside place n a b c d u made (inl whole) names same says = inr (says whole)
-gone_behind {W} beside place n a b c d u made (inr let_go) names same says =
-    let m : FileNames = record { beside = beside; place = place } in
-    inl (subst (λ (x : Option (List PlaceCall)). AsksOneOf a x (leaving_nothing m)) (sym same)
-    (gone_of m a b c made (subst (λ (x : FileNames). AsksOneOf b c (letting_go x)) names let_go)))
+pub gone_behind : {W : Type 0} (n m : FileNames) (a b c d : Option (List PlaceCall)) (u : Unkept)
+    → Asks a b (making n) → W ⊎ AsksOneOf b c (letting_go m) → m ≡ n → d ≡ c
+    → (W → SaysWhere n.place n.beside u) → IsGoneOrSaysWhere a d n u
+gone_behind n m a b c d u made (inl whole) names same says = inr (says whole)
+gone_behind {W} n m a b c d u made (inr let_go) names same says =
+    inl (subst (λ (x : Option (List PlaceCall)). AsksOneOf a x (leaving_nothing n)) (sym same)
+    (gone_of n a b c made (subst (λ (x : FileNames). AsksOneOf b c (letting_go x)) names let_go)))
 
 -- what is told of errors holds of one
 pub at_err : {T E X : Type 0} (r : Result T E) (e : E) → r ≡ Err e → X → OnErr r X
