@@ -3,7 +3,7 @@
 ghost use Rattle.std.specs.Prelude.{◌≡◌, ◌≢◌, ◌⊎◌, ◌<◌, ◌≤◌, ◌^◌, IfSome, None};
 ghost use Rattle.cm_io.specs.CountsInside.{count_after};
 ghost use Rattle.cm_io.specs.Outside.{Rose};
-ghost use Rattle.cm_gate.specs.Asks.{AsksHalt, AsksLaunch, DialsOnce};
+ghost use Rattle.cm_gate.specs.Asks.{AsksHalt, AsksLaunch, DialsOnce, FailsHalt, FailsLaunch};
 ghost use Rattle.cm_gate.specs.Failures.{is_failed_fetch, is_failed_halt, is_failed_launch};
 ghost use Rattle.cm_gate.specs.Places.{HasAtMost, place_of_fetch};
 ghost use Rattle.cm_gate.specs.Reads.{FindsFile};
@@ -87,6 +87,9 @@ fn launch_by<N: Network>(runner: &Option<Runner>, net: &mut N, job: &Job) -> Lau
     ensures recorded { runner.now ≡ None → result ≡ Launched.Running }
     ensures asks { IfSome runner.now (λ place. result ≢ Launched.Failed → AsksLaunch
         N.connected N.Connection.wrote N.Connection.gave net.new place job.now result) }
+    ensures failed { IfSome runner.now (λ place. result ≡ Launched.Failed → FailsLaunch N.connected
+        N.unconnected N.Connection.wrote N.Connection.unsent N.Connection.gave N.Connection.unheard
+        net.old place job.now net.new) }
     ensures once { IfSome runner.now (λ place. DialsOnce N.dialed net.old place net.new) }
     ensures never { runner.now ≡ None → net.new ≡ net.old }
 {
@@ -101,6 +104,9 @@ fn halt_by<N: Network>(runner: &Option<Runner>, net: &mut N, job: &Job) -> Halte
     ensures recorded { runner.now ≡ None → result ≡ Halted.Stopped }
     ensures asks { IfSome runner.now (λ place. result ≢ Halted.Failed → AsksHalt
         N.connected N.Connection.wrote N.Connection.gave net.new place job.now result) }
+    ensures failed { IfSome runner.now (λ place. result ≡ Halted.Failed → FailsHalt N.connected
+        N.unconnected N.Connection.wrote N.Connection.unsent N.Connection.gave N.Connection.unheard
+        net.old place job.now net.new) }
     ensures once { IfSome runner.now (λ place. DialsOnce N.dialed net.old place net.new) }
     ensures never { runner.now ≡ None → net.new ≡ net.old }
 {
@@ -153,7 +159,8 @@ impl<F: Folder + Network + Drop> Gates for FolderGates<F> {
 
     /// Asks the runner, if there is one; else the program is taken to run. An answer but `Failed` is
     /// what the runner answered to this very question, over a connection that was made to its place,
-    /// and it was told that this is taken. It is asked once.
+    /// and it was told that this is taken. It is asked once. `Failed` comes only where nobody was asked,
+    /// where no whole answer came, or none that is known, or where it couldn't be told that it is taken.
     fn launch<R: Threads + Wait + Sync>(
         &mut self,
         _rt: &R,
@@ -170,6 +177,9 @@ impl<F: Folder + Network + Drop> Gates for FolderGates<F> {
         ensures recorded { self.old.runner ≡ None → result ≡ Launched.Running }
         ensures asks { IfSome self.old.runner (λ place. result ≢ Launched.Failed → AsksLaunch
             F.connected F.Connection.wrote F.Connection.gave self.new.files place job.now result) }
+        ensures failed { IfSome self.old.runner (λ place. result ≡ Launched.Failed → FailsLaunch
+            F.connected F.unconnected F.Connection.wrote F.Connection.unsent
+            F.Connection.gave F.Connection.unheard self.old.files place job.now self.new.files) }
         ensures once { IfSome self.old.runner (λ place.
             DialsOnce F.dialed self.old.files place self.new.files) }
         ensures never { self.old.runner ≡ None → self.new.files ≡ self.old.files }
@@ -196,6 +206,9 @@ impl<F: Folder + Network + Drop> Gates for FolderGates<F> {
         ensures recorded { self.old.runner ≡ None → result ≡ Halted.Stopped }
         ensures asks { IfSome self.old.runner (λ place. result ≢ Halted.Failed → AsksHalt
             F.connected F.Connection.wrote F.Connection.gave self.new.files place job.now result) }
+        ensures failed { IfSome self.old.runner (λ place. result ≡ Halted.Failed → FailsHalt
+            F.connected F.unconnected F.Connection.wrote F.Connection.unsent
+            F.Connection.gave F.Connection.unheard self.old.files place job.now self.new.files) }
         ensures once { IfSome self.old.runner (λ place.
             DialsOnce F.dialed self.old.files place self.new.files) }
         ensures never { self.old.runner ≡ None → self.new.files ≡ self.old.files }

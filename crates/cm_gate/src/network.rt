@@ -1,6 +1,6 @@
 //! Networks, over which a connection is made to who listens at a place.
 
-ghost use Rattle.std.specs.Prelude.{IfOk, take};
+ghost use Rattle.std.specs.Prelude.{IfOk, OnErr, take};
 ghost use Rattle.std.specs.Io.{ReadsAtMost};
 
 use cm_io::standard::read_through;
@@ -20,17 +20,25 @@ pub trait Connection: Drop {
     /// All these bytes were written, from where the connection stood to where it stands now.
     ghost wrote: { Self → List ℕ → Self → Type 0 };
 
+    /// Writing these bytes failed, from where the connection stood to where it stands now.
+    ghost unsent: { Self → List ℕ → Self → Type 0 };
+
     /// These bytes were read, from where the connection stood to where it stands now.
     ghost gave: { Self → List ℕ → Self → Type 0 };
 
+    /// Reading failed, from where the connection stood to where it stands now.
+    ghost unheard: { Self → Self → Type 0 };
+
     /// Writes all these bytes.
     fn send(&mut self, bytes: &[u8]) -> io::Result<()>
-        ensures wrote { IfOk result (λ _. wrote self.old bytes.now self.new) };
+        ensures wrote { IfOk result (λ _. wrote self.old bytes.now self.new) }
+        ensures unsent { OnErr result (unsent self.old bytes.now self.new) };
 
     /// Reads the next bytes, as many as come at once and fit.
     fn receive(&mut self, into: &mut [u8]) -> io::Result<usize>
         ensures bound { ReadsAtMost result into.new }
-        ensures gave { IfOk result (λ count. gave self.old (take count into.new) self.new) };
+        ensures gave { IfOk result (λ count. gave self.old (take count into.new) self.new) }
+        ensures unheard { OnErr result (unheard self.old self.new) };
 }
 
 /// Where connections are made to who listens at a place.
@@ -50,10 +58,15 @@ pub trait Network {
     /// stood to where it stands now.
     ghost dialed: { Self → List ℕ → Self → Type 0 };
 
+    /// A connection to who listens at a place was asked for and not made, from where the network stood to
+    /// where it stands now.
+    ghost unconnected: { Self → List ℕ → Self → Type 0 };
+
     /// Makes a connection to who listens at a place.
     fn connect_to(&mut self, place: &str) -> io::Result<Self::Connection>
         ensures connected { IfOk result (λ connection. connected self.new place.now connection) }
-        ensures dialed { dialed self.old place.now self.new };
+        ensures dialed { dialed self.old place.now self.new }
+        ensures unconnected { OnErr result (unconnected self.old place.now self.new) };
 }
 
 impl Connection for UnixStream {
@@ -61,7 +74,11 @@ impl Connection for UnixStream {
 
     ghost wrote = { λ _ _ _. ⊤ };
 
+    ghost unsent = { λ _ _ _. ⊤ };
+
     ghost gave = { λ _ _ _. ⊤ };
+
+    ghost unheard = { λ _ _. ⊤ };
 
     /// Writes all of the bytes; the error is the socket's.
     fn send(&mut self, bytes: &[u8]) -> io::Result<()> {
@@ -83,6 +100,8 @@ impl<N: Net> Network for N {
     ghost connected = { λ _ _ _. ⊤ };
 
     ghost dialed = { λ _ _ _. ⊤ };
+
+    ghost unconnected = { λ _ _ _. ⊤ };
 
     /// Connects to the socket file at the path. Reads and writes on it fail after a fixed time without
     /// an answer.
