@@ -249,7 +249,7 @@ impl Manager {
         resolved: ResolvedUrl<'a>,
     ) -> Ending
         requires { option_copied resolved.bytes ≡ block_at self.now.manifests.blocks resolved.url }
-        ensures did { (w : TheWork) → absolute_of w.base w.url ≡ Ok resolved.url
+        ensures did { (w : TheWork) → absolute_of w.base w.url ≡ Ok resolved.entry.url
             → DidWith G.log G.faults self.now.manifests w ActKind.Resolve (finish_of result)
             gates.old gates.new }
         ensures fits { FitsAction ActKind.Resolve (finish_of result) }
