@@ -6,3 +6,4 @@ pub mod Rows
 pub mod Builtins
 pub mod Prefixes
 pub mod Only
+pub mod Waiting

@@ -1,9 +1,11 @@
 -- Inside.
 -- What the functions that read a journal promise.
-use Rattle.std.specs.Prelude.{◌≡◌, ℕ, ◌+◌, ◌^◌, ◌<◌, ◌≤◌, min, List, [], ◌∷◌, ◌++◌, length}
+use Rattle.std.specs.Prelude.{◌≡◌, ℕ, ◌+◌, ◌^◌, ◌<◌, ◌≤◌, min, List, [], ◌∷◌, ◌++◌, length, All}
 use Rattle.std.specs.Prelude.{Option, Some, None}
 use Rattle.cm_world.specs.declared.event.Event.{Event}
-use Rattle.cm_world.specs.declared.event.Event.TheVariants.{Pick}
+use Rattle.cm_world.specs.declared.event.Event.TheVariants.{Await, End, Pick}
+use Rattle.cm_world.specs.declared.action.Finish.{Finish}
+use Rattle.cm_world.specs.declared.action.Finish.TheVariants as finish
 use Rattle.cm_world.specs.declared.reply.Reply.{Reply}
 use Rattle.cm_world.specs.World.{World}
 use Rattle.cm_world.specs.Step.{IsPickReply}
@@ -23,7 +25,7 @@ use Rattle.cm_audit.specs.declared.fault.JournalLineFault.TheVariants as fault
 use Rattle.cm_audit.specs.declared.head.HeadLine.{HeadLine}
 use Rattle.cm_audit.specs.declared.head.HeadLine.TheVariants as said
 use Rattle.cm_audit.specs.declared.verdict.Audit.TheVariants as audit
-use Rattle.cm_audit.specs.Journal.{Stage, before, head, told, ReadsAll, IsBad, root_text}
+use Rattle.cm_audit.specs.Journal.{Stage, before, head, told, ReadsAll, IsBad, journal_line, root_text}
 use Rattle.cm_audit.specs.Expected.{Expects}
 use Rattle.cm_audit.specs.Verdict.{IsVerdict, bytes_of, journal_limit}
 
@@ -62,6 +64,10 @@ pub record PassesLimit (size : ℕ) (rest : TextBytes) : Type 0 where
 abbrev pub IsStop : TextBytes → ReadingStop → Type 0
 IsStop bytes (stop.Verdict verdict) = IsVerdict bytes verdict
 IsStop bytes stop.Memory = Unit {0}
+
+-- no line of these bytes is the one that begins a journal
+abbrev pub HasNoJournal : TextBytes → Type 0
+HasNoJournal bytes = All (λ (t : TextBytes). t ≡ journal_line → ⊥) (lines_of bytes)
 
 -- how a fault of the line with this number ends the reading
 abbrev pub stop_at : ℕ → JournalLineFault → ReadingStop
@@ -102,6 +108,17 @@ pub record StepTaken (old new : Story) (caller : ℕ) (event : Event) (given : T
   pub reply : Reply
   pub tells : AddsEntry old new caller event reply
   pub same : given ≡ replied_text reply
+
+-- an end of an action that brings no declaration
+abbrev pub BringsNothing : Finish → Type 0
+BringsNothing (finish.Other outcome) = Unit {0}
+BringsNothing _ = ⊥
+
+-- the step of such an event takes no memory: an await, or an end that brings no declaration
+abbrev pub TakesNoMemory : Event → Type 0
+TakesNoMemory (Await action) = Unit {0}
+TakesNoMemory (End action end) = BringsNothing end
+TakesNoMemory _ = ⊥
 
 -- the event is legal with the given reply, and was made in the realm; or something else is expected in
 -- its place

@@ -1,11 +1,11 @@
 //! The audit of a journal as a whole.
 
-ghost use Rattle.std.specs.Prelude.{IfOk, IfErr};
-ghost use Rattle.cm_audit.specs.Reading.{IsStop};
+ghost use Rattle.std.specs.Prelude.{◌≢◌, Err, IfOk, IfErr, IsOk};
+ghost use Rattle.cm_audit.specs.Reading.{HasNoJournal, IsStop};
 ghost use Rattle.cm_audit.specs.Verdict.{IsVerdict};
 
 use crate::entries::audit_entries;
-use crate::fault::ReadingStop;
+use crate::fault::{ReadingStop, bad_text};
 use crate::head::{AfterRoot, find_journal, read_head};
 use crate::verdict::Audit;
 use cm_names::{List, Memory};
@@ -35,9 +35,11 @@ const LIMITS: Limits = Limits {
 /// caller may make, and what they come to, is this project's own model of Fuchsia's component manager
 /// (`cm_world`).
 ///
-/// `Err` where memory runs out. It reads the bytes once, and keeps the entries until its end.
+/// `Err` where memory runs out, which takes a line `journal`. It reads the bytes once, and keeps the
+/// entries until its end.
 pub fn audit(alloc: Global, text: &[u8]) -> Result<Audit, Memory>
-    ensures { IfOk result (λ verdict. IsVerdict text.now verdict) }
+    ensures verdict { IfOk result (λ verdict. IsVerdict text.now verdict) }
+    ensures free { HasNoJournal text.now → IsOk result }
 {
     match audited(alloc, text) {
         Ok(verdict) => Ok(verdict),
@@ -50,10 +52,11 @@ pub fn audit(alloc: Global, text: &[u8]) -> Result<Audit, Memory>
 fn audited(alloc: Global, text: &[u8]) -> Result<Audit, ReadingStop>
     ensures verdict { IfOk result (λ verdict. IsVerdict text.now verdict) }
     ensures stop { IfErr result (λ stop. IsStop text.now stop) }
+    ensures free { HasNoJournal text.now → result ≢ Err ReadingStop.Memory }
 {
     let begun = match find_journal(text) {
         Ok(begun) => begun,
-        Err(stop) => return Err(stop),
+        Err(line) => return Err(bad_text(line)),
     };
     let mut builtins = List::new(alloc);
     let head = match read_head(alloc, text, begun.number, begun.rest, &mut builtins) {

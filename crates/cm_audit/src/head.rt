@@ -8,7 +8,7 @@ ghost use Rattle.cm_reply.specs.Journal.{builtin_text as text_of};
 ghost use Rattle.cm_reply.specs.Legible.{IsLegibleBuiltin};
 ghost use Rattle.cm_audit.specs.Journal.{head, told, frame_of};
 ghost use Rattle.cm_audit.specs.Reading.{IsAt, IsHeadLine, IsStop};
-ghost use Rattle.cm_audit.specs.Verdict.{journal_limit};
+ghost use Rattle.cm_audit.specs.Verdict.{HasBadText, journal_limit};
 
 use crate::fault::{ReadingStop, bad_text};
 use crate::lines::cut_within;
@@ -53,16 +53,19 @@ pub struct AfterRoot<'a> {
 }
 
 /// What stands after the first line `journal`. What stands before it is skipped.
-pub fn find_journal(text: &[u8]) -> Result<JournalPlace<'_>, ReadingStop>
+///
+/// `Err` with the number of the line that passes the limit, or of the one after the last, where none
+/// comes. It takes no memory.
+pub fn find_journal(text: &[u8]) -> Result<JournalPlace<'_>, u32>
     ensures { MatchResult result
         (λ place. IsAt text.now place.number place.rest.now (head []))
-        (λ stop. IsStop text.now stop) }
+        (λ line. HasBadText text.now line) }
 {
     let mut number: u32 = 1;
     let mut rest = text;
     'lines: while !rest.is_empty() {
         let Some(cut) = cut_within(text.len(), rest) else {
-            return Err(bad_text(number));
+            return Err(number);
         };
         number += 1;
         rest = cut.behind;
@@ -70,7 +73,7 @@ pub fn find_journal(text: &[u8]) -> Result<JournalPlace<'_>, ReadingStop>
             return Ok(JournalPlace { number, rest });
         }
     }
-    Err(bad_text(number))
+    Err(number)
 }
 
 /// Takes the lines of the builtin capabilities and that of the root, which stand after the line

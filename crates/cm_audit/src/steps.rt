@@ -1,13 +1,17 @@
 //! The step that an event of a journal comes to.
 
-ghost use Rattle.std.specs.Prelude.{◌≡◌, ◌≢◌, ℕ, IfOk};
+ghost use Rattle.std.specs.Prelude.{◌≡◌, ◌≢◌, ℕ, IfErr, IfOk, IsOk};
 ghost use Rattle.cm_world.specs.declared.action.Finish.{Finish as Ends};
 ghost use Rattle.cm_world.specs.End.{HasValid};
 ghost use Rattle.cm_world.specs.Step.{IsEnabled, MayAwait, MayEnd};
 ghost use Rattle.cm_laws.specs.Story.{world_of, AddsEntry};
 ghost use Rattle.cm_steps.specs.Ends.{finish_of};
+ghost use Rattle.cm_steps.specs.Needs.{need};
 ghost use Rattle.cm_steps.specs.Requests.{event_for, event_of};
+ghost use Rattle.cm_steps.specs.Steps.{RefusesStep};
+ghost use Rattle.cm_audit.specs.Reading.{BringsNothing, TakesNoMemory};
 
+use cm_names::Memory;
 use cm_steps::{Ending, EventRef, NoStep, Realm, Request};
 use cm_table::Prepared;
 use cm_world::{Event, Finish, NewChild, Reply};
@@ -17,7 +21,8 @@ use std::alloc::Global;
 /// realm's history.
 ///
 /// `Err` where memory runs out. An event that may be made waits for no action, and no journal within
-/// its limit has as many entries as the realm takes, so nothing else keeps a step from being made.
+/// its limit has as many entries as the realm takes, so nothing else keeps a step from being made. An
+/// await, and an end that brings no declaration, take no memory.
 pub fn make_step(
     alloc: Global,
     realm: &mut Realm,
@@ -25,11 +30,13 @@ pub fn make_step(
     event: &Event,
 ) -> Result<Reply, NoStep>
     requires { IsEnabled (world_of realm.old) caller event.now }
-    ensures { IfOk result (λ reply. AddsEntry realm.old realm.new caller event.now reply) }
+    ensures step { IfOk result (λ reply. AddsEntry realm.old realm.new caller event.now reply) }
+    ensures refused { IfErr result (RefusesStep realm.old (need event.now) (λ a. ⊥)) }
+    ensures free { TakesNoMemory event.now → IsOk result }
 {
     match event {
-        Event::End(action, finish) => end(alloc, realm, caller, *action, finish),
-        Event::Await(action) => await_end(realm, caller, *action),
+        Event::End(action, finish) => Ok(end(alloc, realm, caller, *action, finish)?),
+        Event::Await(action) => Ok(await_end(realm, caller, *action)),
         _ => realm.step(alloc, caller, lent(event)),
     }
 }
@@ -69,9 +76,10 @@ fn creation(child: &NewChild) -> Request<'_>
 }
 
 /// How an action ends that may end so. A declaration is shared with the event.
-fn ending_of(alloc: Global, finish: &Finish) -> Result<Ending, NoStep>
+fn ending_of(alloc: Global, finish: &Finish) -> Result<Ending, Memory>
     requires { HasValid finish.now }
-    ensures { IfOk result (λ ending. finish_of ending ≡ finish.now) }
+    ensures same { IfOk result (λ ending. finish_of ending ≡ finish.now) }
+    ensures free { BringsNothing finish.now → IsOk result }
 {
     match finish {
         Finish::Resolved(url, decl) => {
@@ -90,23 +98,23 @@ fn end(
     caller: u32,
     action: u64,
     finish: &Finish,
-) -> Result<Reply, NoStep>
+) -> Result<Reply, Memory>
     requires { MayEnd (world_of realm.old).acts caller action finish.now }
-    ensures { IfOk result
+    ensures step { IfOk result
         (λ reply. AddsEntry realm.old realm.new caller (Event.End action finish.now) reply) }
+    ensures free { BringsNothing finish.now → IsOk result }
 {
     let ending = ending_of(alloc, finish)?;
     Ok(realm.end(caller, action, ending))
 }
 
 /// Takes the outcome of an action whose outcome may be taken.
-fn await_end(realm: &mut Realm, caller: u32, action: u64) -> Result<Reply, NoStep>
+fn await_end(realm: &mut Realm, caller: u32, action: u64) -> Reply
     requires { let w = world_of realm.old in MayAwait w.acts w.joins caller action }
-    ensures { IfOk result
-        (λ reply. AddsEntry realm.old realm.new caller (Event.Await action) reply) }
+    ensures { AddsEntry realm.old realm.new caller (Event.Await action) result }
 {
     match realm.await_end(caller, action) {
-        Some(reply) => Ok(reply),
+        Some(reply) => reply,
         None => unreachable!(),
     }
 }

@@ -1,11 +1,10 @@
 use Rattle.std.proofs.Common.{true≢false, sym, subst, ◌∙◌, []}
 use Rattle.cm_audit.specs.Journal.{before, head, Reads}
-use Rattle.cm_audit.specs.Reading.{IsStop}
 use Rattle.cm_audit.proofs.lemmas.Places.{at_next, passes}
 use Rattle.cm_audit.proofs.head.find_journal.Goals as goal
 
 pub returns-in_default : goal.returns-in_default
-returns-in_default c = subst (IsStop c.args.text.now) (sym c.bad_text.ensures) (passes c.lines.invariant c.in_default.ensures)
+returns-in_default c = passes c.lines.invariant c.in_default.ensures
 
 pub returns-then-is_same : goal.returns-then-is_same
 returns-then-is_same c =

@@ -6,4 +6,4 @@ returns-then-not-branch c = no_step_by _ _ _ _ _ _ _ c.if-not-branch.true c.in_o
 
 pub returns : goal.returns
 returns c =
-    judged_other_by _ _ _ _ _ c.in-Ok.reply c.other_text.result c.requires (c.in_ok-is_enabled.ensures.0 c.if-not-branch.false) c.in-Ok.ensures c.other_text.ensures
+    judged_other_by _ _ _ _ _ c.in-Ok.reply c.other_text.result c.requires (c.in_ok-is_enabled.ensures.0 c.if-not-branch.false) c.in-Ok.ensures.step c.other_text.ensures
