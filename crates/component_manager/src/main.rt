@@ -11,12 +11,12 @@ mod ending;
 
 ghost use Rattle.std.specs.Prelude.{◌≡◌, ◌≢◌, ◌⊎◌, ℕ, List as Seq, Option, Some, None, codes, length};
 ghost use Rattle.std.specs.Prelude.{All, IfErr, IfOk, IfSome, IsOk, OnErr, OnOk, slice_get};
-ghost use Rattle.cm_keep.specs.Asked.{Asks, AsksOneOf, IsGoneOrSaysWhere, failing, names_at, trying};
-ghost use Rattle.cm_keep.specs.Asked.{unmade};
-ghost use Rattle.cm_keep.specs.Asked.{keeping as keeping_calls};
-ghost use Rattle.cm_keep.specs.Files.{IsTried, NeverBegan, SaysWhyUnkept, StandsAt, beside_name};
+ghost use Rattle.cm_keep.specs.Asked.{Asks, AsksOneOf, IsGoneOrSaysWhere, WasRefused, failing, faulting};
+ghost use Rattle.cm_keep.specs.Asked.{keeping as keeping_calls, names_at, refusing, trying, unmade};
+ghost use Rattle.cm_keep.specs.Files.{IsTried, MayNameFile, NeverBegan, SaysWhyUnkept, StandsAt};
+ghost use Rattle.cm_keep.specs.Files.{beside_name};
 ghost use Rattle.cm_keep.specs.Keeping.{kept_text};
-ghost use Rattle.cm_keep.specs.Service.{Plans};
+ghost use Rattle.cm_keep.specs.Service.{Plans, SaysWhyUnready};
 ghost use Rattle.cm_keep.specs.declared.service.Unkept.TheVariants as unkept;
 ghost use Rattle.cm_program.specs.Written.{IsSaid, want_line};
 
@@ -135,7 +135,10 @@ fn try_journal<F: FilePlace + Drop>(
         (λ k. OnOk result.1 (Asks (F.asked files) (F.asked result.0) (trying (names_at k.at number)))) }
     ensures unmade { IfSome keeping.now (λ k. OnErr result.1
         (AsksOneOf (F.asked files) (F.asked result.0) (unmade (names_at k.at number)))) }
+    ensures fits { IfSome keeping.now (λ k. OnOk result.1 (F.fits k.at)) }
     ensures told { IfSome keeping.now (λ k. IfErr result.1 (SaysWhyUnkept k.at)) }
+    ensures refused { IfSome keeping.now (λ k. IfErr result.1
+        (WasRefused (F.asked files) (F.asked result.0) (refusing (names_at k.at number)))) }
 {
     match keeping {
         Some(keeping) => try_keeping(alloc, files, number, keeping),
@@ -163,6 +166,8 @@ fn keep_journal<F: FilePlace + Drop>(
     ensures failed { IfSome keeping.now (λ k. OnErr result.1
         (AsksOneOf (F.asked files) (F.asked result.0) (failing (names_at k.at number)))) }
     ensures told { IfSome keeping.now (λ k. IfErr result.1 (SaysWhyUnkept k.at)) }
+    ensures refused { IfSome keeping.now (λ k. IfErr result.1
+        (WasRefused (F.asked files) (F.asked result.0) (faulting (names_at k.at number)))) }
     ensures left { IfSome keeping.now (λ k. IfErr result.1
         (IsGoneOrSaysWhere (F.asked files) (F.asked result.0) (names_at k.at number))) }
 {
@@ -201,6 +206,8 @@ fn outside_of(
     ensures others { slice_get words.now 0 ≢ Some (codes "serve") → IfOk result (λ given.
         All (λ g. g ≡ record { files = rt; runner = None; faults = 0 }) given.0) }
     ensures journal { IfOk result (λ given. Plans words.now journal given.1) }
+    ensures fits { IfOk result (λ given. IfSome given.1 (λ k. MayNameFile k.at)) }
+    ensures told { IfErr result (SaysWhyUnready words.now journal) }
 {
     let at = runner_of(words, runner);
     let Ok(gates) = folder_gates(rt.alloc(), rt, &at) else {
